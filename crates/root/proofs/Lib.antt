@@ -1,0 +1,13 @@
+pub mod Meaning
+pub mod Examples
+pub mod Exact
+pub mod Numbers
+pub mod Turns
+pub mod Rounds
+pub mod Scales
+pub mod Gaps
+pub mod Fractions
+pub mod Unique
+pub mod Computed
+pub mod Read
+pub mod Cases

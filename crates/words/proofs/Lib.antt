@@ -1,0 +1,3 @@
+-- What is proved about words, besides each function's promise.
+-- Assumes nothing.
+pub mod NanLaws
