@@ -12,7 +12,7 @@ use lib.Ieee.{Float, nan, inf, fin, Format, binary64, prec, low, hid, ones, up, 
 use lib.Ieee.Fits.{up-pos}
 use lib.Ieee.Bits.{ofBits-toBits, nanBits-is, is-true, is-false}
 use lib.Ieee.Positive.{positive}
-use Rattle.root.specs.Root.{Root, Answer}
+use Rattle.root.specs.Root.{Root, Rooted}
 use Rattle.root.specs.Integers.{infinityBits, RootBits}
 use Rattle.root.proofs.Numbers.{lt-or-le}
 use Rattle.root.proofs.Read.{bits-root}
@@ -57,7 +57,7 @@ no-nan (inf s) h = tt
 no-nan (fin s m e) h = tt
 
 -- ---- x < 0.0
-pub answer-negative : (x : Float) → lt x +0 ≡ true → Answer binary64 x (div binary64 +0 +0)
+pub answer-negative : (x : Float) → lt x +0 ≡ true → Rooted binary64 x (div binary64 +0 +0)
 unfolding lt ofBits div
 answer-negative nan h = absurd (true≢false (sym h))
 answer-negative (inf true) h = refl
@@ -68,7 +68,7 @@ answer-negative (fin true (suc m) e) h = refl
 answer-negative (fin false (suc m) e) h = absurd (none-below (suc m * up e * 1) (down e) (ltb→lt (suc m * up e * 1) (0 * down e) (is-T h)))
 
 -- ---- neither: a zero or a NaN
-pub answer-itself : (x : Float) → lt +0 x ≡ false → lt x +0 ≡ false → Answer binary64 x x
+pub answer-itself : (x : Float) → lt +0 x ≡ false → lt x +0 ≡ false → Rooted binary64 x x
 unfolding lt ofBits
 answer-itself nan a b = refl
 answer-itself (inf true) a b = absurd (true≢false b)
@@ -121,7 +121,7 @@ infinity-bits : toBits binary64 (inf false) ≡ infinityBits binary64
 unfolding toBits
 infinity-bits = refl
 
-answer-root : (x r : Float) → T (positive x) → Root binary64 x r → Answer binary64 x r
+answer-root : (x r : Float) → T (positive x) → Root binary64 x r → Rooted binary64 x r
 answer-root nan r p h = absurd p
 answer-root (inf s) r p h = absurd p
 answer-root (fin true m e) r p h = absurd p
@@ -136,9 +136,9 @@ positive-no-nan (fin s m e) p = tt
 
 -- ---- the ways out of `positive_root`
 module _ (x : Float) (held : T (fits binary64 x)) (above : lt +0 x ≡ true) where
-  pub answer-infinity : infinityBits binary64 ≤ toBits binary64 x → Answer binary64 x x
+  pub answer-infinity : infinityBits binary64 ≤ toBits binary64 x → Rooted binary64 x x
   answer-infinity h = elim (infinite-or-positive x above) [
-    | inl e ↦ subst (λ (z : Float). Answer binary64 z z) (sym e) refl
+    | inl e ↦ subst (λ (z : Float). Rooted binary64 z z) (sym e) refl
     | inr p ↦ absurd (high-not-positive (toBits binary64 x) h (subst (λ (z : Float). T (positive z)) (sym (ofBits-toBits binary64 x held)) p))
   ]
 
@@ -164,5 +164,5 @@ module _ (x : Float) (held : T (fits binary64 x)) (above : lt +0 x ≡ true) whe
     pub no-nan-bits : T (not (nanBits binary64 r))
     no-nan-bits = subst (λ (z : Bool). T (not z)) (sym (nanBits-is binary64 r)) (positive-no-nan (ofBits binary64 r) (is-root .above-zero))
 
-    pub answer-bits : Answer binary64 x (ofBits binary64 r)
+    pub answer-bits : Rooted binary64 x (ofBits binary64 r)
     answer-bits = answer-root x (ofBits binary64 r) (is-positive finite) is-root

@@ -1,16 +1,16 @@
 -- `sqrt f x` of a positive number is the value nearest to its root, for either format: its digits are the nearest whole root, and there are enough of them.
 -- Assumes nothing.
 use mathlib.Core.Path.{_≡_, refl, sym, ap, _∙_, subst}
-use mathlib.Core.Bool.{Bool, true, false, not, _&&_, cond}
-use Prim.Native.Nat.{ℕ, zero, suc, _+_, _-_, _*_, _/_, _%_, _^_, _≤_, _<_}
-use native.Mathlib.Nat.{le-trans, le-of-eq, lt-of-lt-of-le, lt-of-le-of-lt, lt-of-not-le, not-le-of-lt, lt-suc-self, zero-lt-suc, mul-assoc, mul-comm, mul-pos, mul-le-mul, mul-le-mul-right, mul-lt-mul-of-pos-right, lt-of-mul-lt-mul-right, mul-div-cancel, mul-right-comm, pow-succ'}
+use mathlib.Core.Bool.{Bool, true, false, not, cond}
+use Prim.Native.Nat.{ℕ, zero, suc, _+_, _-_, _*_, _/_, _^_, _≤_, _<_}
+use native.Mathlib.Nat.{le-trans, le-of-eq, lt-of-lt-of-le, lt-of-le-of-lt, lt-of-not-le, not-le-of-lt, lt-suc-self, zero-lt-suc, mul-assoc, mul-pos, mul-le-mul, mul-le-mul-right, mul-lt-mul-of-pos-right, lt-of-mul-lt-mul-right, mul-div-cancel, pow-succ'}
 use native.Mathlib.Omega.{arith}
 use lib.IntN.{ℤ}
-use lib.Dec.{T, leb, ltb, eqb, leb→le, nleb→lt, ltb→lt, lt→ltb, lit≤, lit<}
+use lib.Dec.{T, leb, ltb, leb→le, nleb→lt, lt→ltb, lit≤, lit<}
 use lib.Pow.{pow-pos, pow-mono, pow-lt, pow-add}
 use lib.Ieee.{Float, inf, fin, Format, binary32, binary64, prec, emax, low, up, down, size, odd, units, fits, hid}
 use lib.Ieee.Digits.{back, size-lt, size-le, size-reaches}
-use lib.Ieee.Fits.{two, and-r, odd-fits, up-pos, down-pos}
+use lib.Ieee.Fits.{two, odd-fits, up-pos, down-pos}
 use lib.Ieee.Exact.{units-val}
 use lib.Ieee.Positive.{num, den, positive-of-value, value→cross, first-pos}
 use Rattle.root.specs.Integers.{FloorRoot, NearestRoot}
@@ -18,7 +18,7 @@ use Rattle.root.specs.Root.{Root}
 use Rattle.root.specs.Sqrt.{wholeRoot, nearestRoot, sqrt}
 use Rattle.root.proofs.Rounds.{rounds-up, rounds-down, root-reaches}
 use Rattle.root.proofs.Numbers.{four, four-squared}
-use Rattle.root.proofs.Fractions.{digits, near-root}
+use Rattle.root.proofs.Fractions.{fits-parts, digits, near-root}
 
 -- ---- the whole part of a root
 abbrev Whole : ℕ → ℕ → Type 0
@@ -96,7 +96,7 @@ wide : (f : Format) → 0 < emax f
 wide binary32 = lit< tt
 wide binary64 = lit< tt
 
--- ---- how many digits the root drops
+-- ---- how many digits the root drops: x is p * 2 ^ i over the square of the smallest value, p has z digits, the format P, and w of the root's are dropped
 module _ (P l E z i w : ℕ) (two-P : 2 ≤ P) (dp : 2 * P ≤ l + 2) (zp : 0 < z) (zP : z ≤ P) (li : l ≤ i) (e : w ≡ suc (z + i) / 2 - P) where
   dropped : 2 * w ≤ i
   dropped = omega arith
@@ -119,7 +119,7 @@ units-fit f q k a b = go (ltb (q * 2 ^ k) (2 ^ (low f + suc (emax f)))) (lt→lt
     go true t = odd-fits f (suc (prec f)) false q k (lt-of-le-of-lt a (pow-lt (lt-suc-self (prec f)))) a b
     go false t = absurd t
 
--- ---- the theorem, from x's digits p * 2 ^ j on
+-- ---- the theorem, for an x of p * 2 ^ j smallest values: n is p moved to twice as many digits as the format has, or one less, and q is nearest to n's root
 quarters : (p i w : ℕ) → 2 * w ≤ i → p * 2 ^ i ≡ p * 2 ^ (i - 2 * w) * 4 ^ w
 quarters p i w h =
     ap (λ (x : ℕ). p * 2 ^ x) (sym (back i (2 * w) h))
@@ -148,8 +148,11 @@ module _ (f : Format) (x : Float) (p j : ℕ) (pp : 0 < p) (ps : p < 2 ^ prec f)
       let n-high : n < 4 ^ P = subst (λ (y : ℕ). n < y) (sym (four P)) (lt-of-lt-of-le (stays-under p (i - 2 * w)) (pow-mono (most-digits P l (emax f) z i w (two f) (deep f) zp zP li e))) in
       let r = near-is P (hid f) n n-high (pow-pos (P - 1)) n-low in
       let q = nearestRoot P n in
-      let size-top : z + i ≤ l + suc (emax f) + l = le-trans (le-of-eq (sym (size-shift p i pp))) (size-le (p * 2 ^ i) (l + suc (emax f) + l) (subst (λ (y : ℕ). y < 2 ^ (l + suc (emax f) + l)) shift (lt-of-lt-of-le (mul-lt-mul-of-pos-right top (pow-pos l)) (le-of-eq (sym (pow-add 2 (l + suc (emax f)) l)))))) in
-      let under : q * 2 ^ w < 2 ^ (l + suc (emax f)) = lt-of-le-of-lt (mul-le-mul-right (2 ^ w) (r .2)) (lt-of-le-of-lt (le-of-eq (sym (pow-add 2 P w))) (pow-lt (reach-w P l (emax f) z i w (two f) (deep f) zp zP li e (wide f) size-top))) in
+      let value-top : p * 2 ^ j * 2 ^ l < 2 ^ (l + suc (emax f) + l) = rw (pow-add 2 (l + suc (emax f)) l) (mul-lt-mul-of-pos-right top (pow-pos l)) in
+      let size-most : size (p * 2 ^ i) ≤ l + suc (emax f) + l = size-le (p * 2 ^ i) (l + suc (emax f) + l) (rw shift at value-top) in
+      let size-top : z + i ≤ l + suc (emax f) + l = rw (size-shift p i pp) at size-most in
+      let reach : 2 ^ (P + w) < 2 ^ (l + suc (emax f)) = pow-lt (reach-w P l (emax f) z i w (two f) (deep f) zp zP li e (wide f) size-top) in
+      let under : q * 2 ^ w < 2 ^ (l + suc (emax f)) = lt-of-le-of-lt (mul-le-mul-right (2 ^ w) (r .2)) (rw (pow-add 2 P w) at reach) in
       let v = units-val f false q w under in
       let qp : 0 < q = lt-of-lt-of-le (pow-pos (P - 1)) (r .1) in
       subst (λ (y : ℕ). Root f x (units f false (nearestRoot P y) w)) (sym en')
@@ -157,18 +160,11 @@ module _ (f : Format) (x : Float) (p j : ℕ) (pp : 0 < p) (ps : p < 2 ^ prec f)
       (positive-of-value (units f false q w) (q * 2 ^ w) (2 ^ l) v (mul-pos qp (pow-pos w))) ev (value→cross (units f false q w) (q * 2 ^ w) (2 ^ l) v) en (r .0) (r .1) n-low)
 
 -- ---- `sqrt`
-below-top : (f : Format) (m : ℕ) (e : ℤ) → T (fits f (fin false (suc m) e)) → suc m * up e < 2 ^ suc (emax f) * down e
-unfolding fits
-below-top f m e h =
-    let A = eqb (suc m % 2) 1 in
-    let B = ltb (suc m) (2 ^ prec f) in
-    let C = leb (down e) (2 ^ low f) in
-    let D = ltb (suc m * up e) (2 ^ suc (emax f) * down e) in
-    ltb→lt (suc m * up e) (2 ^ suc (emax f) * down e) (and-r (A && B && C) D h)
-
 under-top : (a b d l E : ℕ) → a * 2 ^ l ≡ b * d → a < 2 ^ E * d → b < 2 ^ (l + E)
 under-top a b d l E e h =
-    lt-of-mul-lt-mul-right d (subst (λ (x : ℕ). x < 2 ^ (l + E) * d) e (lt-of-lt-of-le (mul-lt-mul-of-pos-right h (pow-pos l)) (le-of-eq (mul-right-comm (2 ^ E) d (2 ^ l) ∙ ap (λ (x : ℕ). x * d) (mul-comm (2 ^ E) (2 ^ l) ∙ sym (pow-add 2 l E))))))
+    let scaled : a * 2 ^ l < 2 ^ E * d * 2 ^ l = mul-lt-mul-of-pos-right h (pow-pos l) in
+    let same : 2 ^ E * d * 2 ^ l ≡ 2 ^ (l + E) * d = rw (pow-add 2 l E) (omega arith) in
+    lt-of-mul-lt-mul-right d (rw (e, same) at scaled)
 
 pub sqrt-root : (f : Format) (m : ℕ) (e : ℤ) → T (fits f (fin false (suc m) e)) → Root f (fin false (suc m) e) (sqrt f (fin false (suc m) e))
 unfolding sqrt
@@ -182,4 +178,4 @@ sqrt-root f m e h =
     let pp : 0 < p = first-pos p (2 ^ j) (first-pos (p * 2 ^ j) (down e) u) in
     let q : suc m * up e * 2 ^ low f / down e ≡ p * 2 ^ j = ap (λ (y : ℕ). y / down e) ev ∙ mul-div-cancel (p * 2 ^ j) (down-pos e) in
     subst (λ (n : ℕ). Root f x (units f false (nearestRoot (prec f) (n * 2 ^ low f / 4 ^ (suc (size (n * 2 ^ low f)) / 2 - prec f))) (suc (size (n * 2 ^ low f)) / 2 - prec f))) (sym q)
-    (computed-root f x p j pp (d .2) ev (under-top (suc m * up e) (p * 2 ^ j) (down e) (low f) (suc (emax f)) ev (below-top f m e h)) (suc (size (p * 2 ^ j * 2 ^ low f)) / 2 - prec f) refl)
+    (computed-root f x p j pp (d .2) ev (under-top (suc m * up e) (p * 2 ^ j) (down e) (low f) (suc (emax f)) ev (fits-parts f m e h .2)) (suc (size (p * 2 ^ j * 2 ^ low f)) / 2 - prec f) refl)

@@ -1,10 +1,10 @@
 -- Document 01, "Numbers to check by hand", case 12, and a few more roots, computed from the definitions.
--- `sqrt` is an answer by `sqrt-answers` of `proofs/Meaning.antt`, so each equation is also a fact of `Answer`. Assumes nothing.
+-- `sqrt` is an answer by `sqrt-answers` of `proofs/Meaning.antt`, so each equation is also a fact of `Rooted`. Assumes nothing.
 use mathlib.Core.Path.{_≡_, refl, subst}
 use mathlib.Core.Bool.{true, false}
 use lib.IntN.{pos, negsuc}
 use lib.Ieee.{nan, inf, fin, binary32, binary64, ofBits, fits}
-use Rattle.root.specs.Root.{Root, Answer}
+use Rattle.root.specs.Root.{Root, Rooted}
 use Rattle.root.specs.Sqrt.{sqrt}
 use Rattle.root.proofs.Meaning.{sqrt-answers}
 use Rattle.root.proofs.Exact.{exact-root}
@@ -46,13 +46,13 @@ unfolding sqrt ofBits
 sqrt-above-one = refl
 
 -- -0 keeps its sign, and minus infinity and -1 give NaN
-pub answer-of-minus-zero : Answer binary64 (fin true 0 (pos 0)) (fin true 0 (pos 0))
+pub answer-of-minus-zero : Rooted binary64 (fin true 0 (pos 0)) (fin true 0 (pos 0))
 answer-of-minus-zero = refl
 
-pub answer-of-minus-infinity : Answer binary64 (inf true) nan
+pub answer-of-minus-infinity : Rooted binary64 (inf true) nan
 answer-of-minus-infinity = refl
 
-pub answer-of-minus-one : Answer binary64 (fin true 1 (pos 0)) nan
+pub answer-of-minus-one : Rooted binary64 (fin true 1 (pos 0)) nan
 answer-of-minus-one = refl
 
 -- the other format: the roots of 2 and of 2 ^ -149

@@ -32,8 +32,21 @@ place l (negsuc a) h =
           ∙ sym (mul-assoc m (2 ^ (l - suc a)) (2 ^ suc a)),
     )
 
-pub digits : (f : Format) (y : Float) → T (fits f y) → T (unsigned y) → (p : ℕ) × (j : ℕ) × (p < 2 ^ prec f) × (num y * 2 ^ low f ≡ p * 2 ^ j * den y)
+pub fits-parts : (f : Format) (m : ℕ) (e : ℤ) → T (fits f (fin false (suc m) e))
+    → (suc m < 2 ^ prec f) × (down e ≤ 2 ^ low f) × (suc m * up e < 2 ^ suc (emax f) * down e)
 unfolding fits
+fits-parts f m e h =
+    let is-odd = eqb (suc m % 2) 1 in
+    let short = ltb (suc m) (2 ^ prec f) in
+    let fine = leb (down e) (2 ^ low f) in
+    let below = ltb (suc m * up e) (2 ^ suc (emax f) * down e) in
+    let three = and-l (is-odd && short && fine) below h in (
+      ltb→lt (suc m) (2 ^ prec f) (and-r is-odd short (and-l (is-odd && short) fine three)),
+      leb→le (down e) (2 ^ low f) (and-r (is-odd && short) fine three),
+      ltb→lt (suc m * up e) (2 ^ suc (emax f) * down e) (and-r (is-odd && short && fine) below h),
+    )
+
+pub digits : (f : Format) (y : Float) → T (fits f y) → T (unsigned y) → (p : ℕ) × (j : ℕ) × (p < 2 ^ prec f) × (num y * 2 ^ low f ≡ p * 2 ^ j * den y)
 digits f nan h k = absurd k
 digits f (inf s) h k = absurd k
 digits f (fin true m e) h k = absurd k
@@ -42,12 +55,9 @@ digits f (fin false zero e) h k = (0, 0, pow-pos (prec f), none (up e) (2 ^ low 
     none : (u l d : ℕ) → 0 * u * l ≡ 0 * 1 * d
     none u l d = omega arith
 digits f (fin false (suc m) e) h k =
-    let A = eqb (suc m % 2) 1 in
-    let B = ltb (suc m) (2 ^ prec f) in
-    let C = leb (down e) (2 ^ low f) in
-    let D = ltb (suc m * up e) (2 ^ suc (emax f) * down e) in
-    let z = place (low f) e (leb→le (down e) (2 ^ low f) (and-r (A && B) C (and-l (A && B && C) D h))) in
-    (suc m, z .0, ltb→lt (suc m) (2 ^ prec f) (and-r A B (and-l (A && B) C (and-l (A && B && C) D h))), z .1 (suc m))
+    let parts = fits-parts f m e h in
+    let z = place (low f) e (parts .1) in
+    (suc m, z .0, parts .0, z .1 (suc m))
 
 twice-hid : (f : Format) → 2 ^ prec f ≡ 2 * hid f
 twice-hid f =

@@ -1,3 +1,5 @@
+-- `Meaning` has the theorems on the promise, and `Examples` and `Exact` are worked roots and exact ones.
+-- The others are the laws that they and the proofs of the functions cite.
 pub mod Meaning
 pub mod Examples
 pub mod Exact

@@ -1,4 +1,5 @@
--- Laws on whole numbers that several of these files cite. Assumes nothing.
+-- Laws on whole numbers that several of these files cite.
+-- Assumes nothing.
 use mathlib.Core.Path.{_≡_, refl, ap, _∙_}
 use mathlib.Core.Logic.{_⊎_, inl, inr}
 use mathlib.Core.Bool.{Bool, true, false, not}

@@ -1,11 +1,11 @@
 -- From `root_bits` to the root: what a pattern of bits is worth, and that the number of the bits r is the root of the number of the bits b.
 -- For either format. Assumes nothing.
 use mathlib.Core.Path.{_≡_, sym, ap, _∙_, subst}
-use mathlib.Core.Bool.{false, cond}
+use mathlib.Core.Bool.{false, not, cond}
 use Prim.Native.Nat.{ℕ, zero, suc, _+_, _-_, _*_, _/_, _%_, _^_, _≤_, _<_}
 use native.Mathlib.Nat.{lt-irrefl, lt-trans, lt-of-lt-of-le, mod-eq-of-lt, div-lt-iff-lt-mul, mul-one, mul-comm, mul-pos, mul-lt-mul-of-pos-right, lt-suc-self}
 use native.Mathlib.Omega.{arith}
-use lib.Dec.{leb, eqb, not-T, eqb→eq}
+use lib.Dec.{T, leb, eqb, not-T, eqb→eq}
 use lib.Arith.{lt→nleb, digits-div, digits-mod}
 use lib.Pow.{pow-pos}
 use lib.Ieee.{Float, nan, inf, Format, prec, low, hid, ones, top, odd, ofFields, ofBits}
@@ -20,8 +20,9 @@ fields-value : (f : Format) (x t : ℕ) → x < ones f → HasValue (ofFields f 
 unfolding ofFields unitsOfFields
 fields-value f zero t h = subst (λ (z : ℕ). HasValue (odd (prec f) false t 0 (low f)) false z (2 ^ low f)) (mul-one t) (odd-sign (prec f) false t 0 (low f))
 fields-value f (suc x) t h =
-    subst (λ (v : Float). HasValue v false ((hid f + t) * 2 ^ x) (2 ^ low f))
-    (sym (cond-no (eqb (suc x) (ones f)) (cond (eqb t 0) (inf false) nan) (odd (prec f) false (hid f + t) x (low f)) (not-T (eqb (suc x) (ones f)) (λ u. lt-irrefl (ones f) (subst (λ (z : ℕ). z < ones f) (eqb→eq (suc x) (ones f) u) h)))))
+    let finite : T (not (eqb (suc x) (ones f))) = not-T (eqb (suc x) (ones f)) (λ u. lt-irrefl (ones f) (subst (λ (z : ℕ). z < ones f) (eqb→eq (suc x) (ones f) u) h)) in
+    let value = odd (prec f) false (hid f + t) x (low f) in
+    subst (λ (v : Float). HasValue v false ((hid f + t) * 2 ^ x) (2 ^ low f)) (sym (cond-no (eqb (suc x) (ones f)) (cond (eqb t 0) (inf false) nan) value finite))
     (odd-sign (prec f) false (hid f + t) x (low f))
 
 hid-pos : (f : Format) → 0 < hid f

@@ -1,4 +1,4 @@
--- What a square root is, by IEEE 754: `Root f x r`, r is the value of the format f nearest to the exact root of x, and `Answer f x r`, the answer for every x.
+-- What a square root is, by IEEE 754: `Root f x r`, r is the value of the format f nearest to the exact root of x, and `Rooted f x r`, the answer for every x.
 -- Stated over the natural numbers: a finite value is the fraction num / den, and the root of x is compared with the middle of y and r by squares, 4x with (y + r)².
 use mathlib.Core.Path.{_≡_}
 use mathlib.Core.Bool.{Bool, true, false, not}
@@ -26,7 +26,7 @@ unsigned (inf s) = false
 unsigned (fin s m e) = not s
 
 -- Of the values of f, r is the nearest to the root of x: (y + r)² < 4x for every y below r, and 4x < (y + r)² for every y above it.
--- y has its sign clear, since one below zero is farther from the root than +0 is.
+-- y is finite and has its sign clear, since one below zero is farther from the root than +0 is.
 pub record Root (f : Format) (x r : Float) : Type 0 where
   pub held : T (fits f r)
   pub above-zero : T (positive r)
@@ -34,10 +34,10 @@ pub record Root (f : Format) (x r : Float) : Type 0 where
   pub upper : (y : Float) → T (fits f y) → T (unsigned y) → T (lt r y) → fourTimes x y r < squareOfSum x y r
 
 -- A NaN and what is below zero give NaN, plus infinity and both zeros give themselves, and a finite number above zero its root.
-abbrev pub Answer : Format → Float → Float → Type 0
-Answer f nan r = r ≡ nan
-Answer f (inf true) r = r ≡ nan
-Answer f (inf false) r = r ≡ inf false
-Answer f (fin s zero e) r = r ≡ fin s zero e
-Answer f (fin true (suc m) e) r = r ≡ nan
-Answer f (fin false (suc m) e) r = Root f (fin false (suc m) e) r
+abbrev pub Rooted : Format → Float → Float → Type 0
+Rooted f nan r = r ≡ nan
+Rooted f (inf true) r = r ≡ nan
+Rooted f (inf false) r = r ≡ inf false
+Rooted f (fin s zero e) r = r ≡ fin s zero e
+Rooted f (fin true (suc m) e) r = r ≡ nan
+Rooted f (fin false (suc m) e) r = Root f (fin false (suc m) e) r

@@ -1,4 +1,4 @@
--- The square root as a function, for contracts that are one equation: `sqrt f x`, the one r with `Answer f x r` (`proofs/Meaning.antt`).
+-- The square root as a function, for contracts that are one equation: `sqrt f x`, the one r with `Rooted f x r` (`proofs/Meaning.antt`).
 -- It computes, digit by digit and in whole numbers, so an example is a computation.
 use mathlib.Core.Bool.{true, false, cond}
 use Prim.Native.Nat.{ℕ, zero, suc, _+_, _-_, _*_, _/_, _^_}

@@ -5,7 +5,7 @@ ghost use mathlib.Core.Bool.{true, cond};
 ghost use Prim.Native.Nat.{_+_, _-_, _*_, _^_, _<_, _≤_};
 ghost use lib.Dec.{leb};
 ghost use lib.Ieee.{binary64};
-ghost use Rattle.root.specs.Root.{Answer};
+ghost use Rattle.root.specs.Root.{Rooted};
 ghost use Rattle.root.specs.Sqrt.{sqrt};
 ghost use Rattle.root.specs.Integers.{FloorRoot, NearestRoot, unitsOfBits, infinityBits, Scaled, RootBits};
 
@@ -134,7 +134,7 @@ fn root_bits(bits: u64) -> u64
 // The root of a number above zero. Plus infinity gives itself.
 fn positive_root(x: f64) -> f64
     requires { do ⌜ (← ⟦x > 0.0⟧) ≡ true ⌝ }
-    ensures { λ r. ⌜ Answer binary64 x r ⌝ }
+    ensures { λ r. ⌜ Rooted binary64 x r ⌝ }
 {
     let bits = f64::to_bits(x);
     if bits >= INFINITY {
@@ -146,7 +146,7 @@ fn positive_root(x: f64) -> f64
 // The root of x, to the nearest double. Both zeros and plus infinity give themselves, and a negative
 // number or a NaN gives a NaN.
 pub fn square_root(x: f64) -> f64
-    ensures { λ r. ⌜ (r ≡ sqrt binary64 x) × (Answer binary64 x r) ⌝ }
+    ensures { λ r. ⌜ (r ≡ sqrt binary64 x) × (Rooted binary64 x r) ⌝ }
 {
     if x > 0.0 {
         return positive_root(x);

@@ -4,9 +4,9 @@ use mathlib.Core.Path.{_≡_, sym, subst}
 use borrow.Author.Needs.{needs}
 use lib.Dec.{T}
 use lib.Ieee.{Float, binary64, fits}
-use Rattle.root.specs.Root.{Answer}
+use Rattle.root.specs.Root.{Rooted}
 use Rattle.root.specs.Sqrt.{sqrt}
-use Rattle.root.proofs.Meaning.{answer-sqrt}
+use Rattle.root.proofs.Meaning.{answer→sqrt}
 use Rattle.root.proofs.Cases.{answer-negative, answer-itself}
 use Rattle.root.proofs.square_root.Statement.{statement}
 use Rattle.root.proofs.square_root.Tie as tie
@@ -15,8 +15,8 @@ use Rattle.root.proofs.square_root.Tie as tie
 held : (c : tie.Start) → T (fits binary64 (c .args .x))
 held c = subst T (sym (c .good .0 .1)) tt
 
-both : (x r : Float) → T (fits binary64 x) → Answer binary64 x r → (r ≡ sqrt binary64 x) × Answer binary64 x r
-both x r h a = (answer-sqrt binary64 x r h a, a)
+both : (x r : Float) → T (fits binary64 x) → Rooted binary64 x r → (r ≡ sqrt binary64 x) × Rooted binary64 x r
+both x r h a = (answer→sqrt binary64 x r h a, a)
 
 returns : tie.Need-returns
 returns c = both _ _ (held (c .before .before)) (c .positive-root .ensures)
