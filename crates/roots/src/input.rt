@@ -4,8 +4,8 @@ ghost use mathlib.Core.Path.{_≡_};
 ghost use Rattle.roots.specs.Input.{lineOf};
 use crate::tally::Tally;
 use crate::tally::report;
+use words::first_of;
 use words::unchecked::hex_at;
-use words::unchecked::line_end;
 
 // A line has the bits of a number and of its root, or is a comment, or neither.
 enum Line {
@@ -80,7 +80,7 @@ fn read_lines(text: &[u8]) -> Published {
     let mut number: u64 = 1;
     let mut at: usize = 0;
     while at < text.len() {
-        let end = line_end(text, at);
+        let end = at + first_of(&text[at..], b'\n');
         p = add_line(p, &text[at..end], number);
         number = std::num::wrapping_add_u64(number, 1);
         at = end + 1;

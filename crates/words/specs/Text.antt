@@ -3,8 +3,9 @@
 use mathlib.Core.Bool.{Bool, true, false, _&&_, cond}
 use mathlib.Core.List.{List}
 use Prim.Native.Nat.{ℕ, zero, suc, _+_, _-_, _*_}
-use lib.Dec.{ltb, leb}
+use lib.Dec.{ltb, leb, eqb}
 use lib.ListN.{getD}
+use Rattle.base.specs.First.{firstIn}
 
 -- the value of a hexadecimal digit, and 16 for any other byte
 unfoldable pub digitValue : ℕ → ℕ
@@ -19,3 +20,7 @@ allDigits line at (suc n) = allDigits line at n && ltb (digitValue (getD line (a
 unfoldable pub hexValue : List ℕ → ℕ → ℕ → ℕ
 hexValue line at zero = 0
 hexValue line at (suc n) = hexValue line at n * 16 + digitValue (getD line (at + n) 0)
+
+-- the index of the first such byte, and the length where there is none
+unfoldable pub firstByte : ℕ → List ℕ → ℕ
+firstByte byte text = firstIn (λ b. eqb b byte) text

@@ -45,18 +45,3 @@ pub fn hex_at(line: &[u8], at: usize) -> Hex
     }
     Hex { value, good: true }
 }
-
-// The first line end from at on, or the end of the text.
-pub fn line_end(text: &[u8], at: usize) -> usize
-    requires { ⌜ at ≤ length (now text) ⌝ }
-    ensures { λ r. ⌜ (at ≤ r) × (r ≤ length (now (text .entry))) ⌝ }
-{
-    let mut end = at;
-    while end < text.len() {
-        if text[end] == b'\n' {
-            return end;
-        }
-        end += 1;
-    }
-    end
-}

@@ -1,4 +1,4 @@
--- `roots::input::read_lines` meets its contract. The invariant: at is at most one past the text, where the last line has no end.
+-- `input::read_lines` is safe and ends: at is at most one past the text, where the last line has no end.
 -- Assumes nothing.
 use Prim.Native.Nat.{_-_, _≤_, _+_}
 use lib.ListN.{length}
@@ -14,6 +14,6 @@ abbrev μ-loop : tie.MeasureT-loop
 
 pub read-lines-spec : {M : Type 1} → statement M
 read-lines-spec =
-    tie.close (tie.spec Inv-loop μ-loop (λ c κs. search needs) (λ c. search needs) (λ c κs. search needs) (λ c. search needs) (λ c. search needs)
-    (λ c. search needs) (λ c κs. search needs) (λ c κs. search needs) (λ c. search needs) (λ c. search needs) (λ c. search needs)
-    (λ c. search needs))
+    tie.close (tie.spec Inv-loop μ-loop (λ c κs. search needs) (λ c. search needs) (λ c. search needs) (λ c. search needs) (λ c. search needs)
+    (λ c κs. search needs) (λ c. search needs) (λ c. search needs) (λ c. search needs) (λ c. search needs) (λ c κs. search needs)
+    (λ c κs. search needs) (λ c. search needs) (λ c. search needs) (λ c. search needs) (λ c. search needs))
