@@ -1,7 +1,7 @@
 // Words in a text: 16 hexadecimal digits each, in lines. For programs that read lists of words.
 // These functions ask their callers that the bytes are there, so that no user calls them.
 ghost use mathlib.Core.Path.{_≡_};
-ghost use mathlib.Core.Bool.{true};
+ghost use mathlib.Core.Bool.{cond};
 ghost use Prim.Native.Nat.{_+_, _≤_};
 ghost use lib.ListN.{length};
 ghost use Rattle.words.specs.Text.{digitValue, allDigits, hexValue};
@@ -24,11 +24,11 @@ fn digit_value(b: u8) -> u64
     }
 }
 
-// The number that the 16 bytes from at on say, if each is a digit.
+// The number that the 16 bytes from at on say, if each is a digit, and else 0.
 pub fn hex_at(line: &[u8], at: usize) -> Hex
     requires { ⌜ at + 16 ≤ length (now line) ⌝ }
     ensures { λ r. ⌜ r .good ≡ allDigits (now (line .entry)) at 16 ⌝ }
-    ensures { λ r. ⌜ (r .good ≡ true → r .value ≡ hexValue (now (line .entry)) at 16) ⌝ }
+    ensures { λ r. ⌜ r .value ≡ cond (allDigits (now (line .entry)) at 16) (hexValue (now (line .entry)) at 16) 0 ⌝ }
 {
     let mut value: u64 = 0;
     let mut i: usize = 0;

@@ -66,10 +66,10 @@ returns-7 c =
       ne-eqb _ _ (s .before .if2 .left),
       eq-eqb _ _ (s .if3 .left),
       eq-eqb _ _ (x .before .if4 .left),
+      x .hex-at .ensures .1,
+      root .hex-at2 .ensures .1,
       sym (x .hex-at .ensures .0) ∙ x-good,
       sym (root .hex-at2 .ensures .0) ∙ root-good,
-      x .hex-at .ensures .1 x-good,
-      root .hex-at2 .ensures .1 root-good,
     )
 
 pub line-of-spec : {M : Type 1} → statement M

@@ -1,7 +1,7 @@
 -- `unchecked::hex_at` meets its contract. The invariant: the bytes before at + i are digits, and value is the number that they say.
 -- Assumes nothing.
 use mathlib.Core.Path.{_≡_, refl, sym}
-use mathlib.Core.Bool.{true, true≢false}
+use mathlib.Core.Bool.{true}
 use Prim.Native.Nat.{_-_, _^_, _≤_, _<_}
 use native.Mathlib.Omega.{arith}
 use borrow.Author.Needs.{needs}
@@ -24,7 +24,8 @@ returns : tie.Need-returns Inv-loop μ-loop
 returns c =
     let l = c .before .before .before .before .loop in
     let a = c .before .before .before .before .before .before .args in
-    (sym (digits-stop (a .line .now) (a .at) (l .i) 16 (c .before .before .before .loop-test .taken) (omega arith)), λ e. absurd (true≢false (sym e)))
+    let no = digits-stop (a .line .now) (a .at) (l .i) 16 (c .before .before .before .loop-test .taken) (omega arith) in
+    (sym no, rw no)
 
 mul-value : tie.Need-mul-value Inv-loop μ-loop
 mul-value c = omega (arith, sixteen-bound (c .before .before .before .before .loop .i) (c .before .before .before .loop-test .taken))
@@ -47,7 +48,8 @@ returns-2 : tie.Need-returns-2 Inv-loop μ-loop
 returns-2 c =
     let l = c .before .loop in
     let e : l .i ≡ 16 = omega arith in
-    (sym (rw e at (l .inv .2)), λ t. rw e at (l .inv .3))
+    let yes = rw e at (l .inv .2) in
+    (sym yes, rw yes (rw e at (l .inv .3)))
 
 pub hex-at-spec : {M : Type 1} → statement M
 hex-at-spec =
