@@ -1,13 +1,17 @@
-# What both commands need on the machine; sourced by them, not run.
+# What the commands at the root need on the machine; sourced by them, not run.
 # The kit that this repository was proved with, as `rt version` prints it; README.md says the same.
 kit='rattle-kit-5b logic 064da1ca440f63e7'
 
 say() { printf '%s: %s\n' "$(basename "$0")" "$*"; }
 
-if ! command -v rt >/dev/null; then
-    say "the Rattle kit is missing: no command rt on the PATH. README.md, 'What it needs', names it." >&2
-    exit 2
-fi
+need() { # COMMAND, WHAT FOR
+    if ! command -v "$1" >/dev/null; then
+        say "the command $1 is missing, for $2. README.md, 'What it needs', names it." >&2
+        exit 2
+    fi
+}
+
+need rt "everything here: it comes with the Rattle kit"
 if [ "$(rt version)" = "$kit" ]; then
     say "kit: $kit"
 else

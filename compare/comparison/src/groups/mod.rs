@@ -1,0 +1,33 @@
+// Every group of calls that is compared, in one list: the comparison, the fixed list and its replay go by it.
+// To add a call, add a module or an entry of one; docs/COMPARING.md has the steps.
+
+pub mod blocks;
+pub mod checks;
+pub mod inverse;
+pub mod root;
+pub mod timed;
+
+use crate::list::Line;
+use crate::settings::Settings;
+use crate::tally::Tally;
+
+pub struct Group {
+    pub name: &'static str,
+    pub compare: fn(&Settings, &mut Tally),
+    /// Lines for the fixed list, from a seed; none for a group that has no place in it.
+    pub sample: fn(u64) -> Vec<Line>,
+    /// For each call what the words of its lines are.
+    pub about: fn() -> Vec<String>,
+    /// How many input words a line of a call has at an N; None if the call is not of this group.
+    pub input_words: fn(&str, usize) -> Option<usize>,
+    /// Calls the port on a line and gives the line that it makes.
+    pub replay: fn(&Line) -> Line,
+}
+
+pub const ALL: &[Group] = &[
+    checks::GROUP,
+    blocks::GROUP,
+    inverse::GROUP,
+    root::GROUP,
+    timed::GROUP,
+];

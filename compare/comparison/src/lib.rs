@@ -1,0 +1,15 @@
+// The comparison of the port with the original, bit for bit: what all groups of calls share.
+// The groups themselves, with their generators, oracles and refusals, are in `groups`.
+
+pub mod byte_call;
+pub mod groups;
+pub mod judge;
+pub mod lent;
+pub mod list;
+pub mod panics;
+pub mod random;
+pub mod rules;
+pub mod settings;
+pub mod tally;
+pub mod values;
+pub mod words;

@@ -1,0 +1,70 @@
+// Doubles as 64-bit words and as bytes, low byte first, and when two words count as equal:
+// if they are the same, or if both are a NaN of whatever pattern.
+
+/// The pattern that the port writes for a NaN.
+pub const NAN: u64 = 0x7FF8_0000_0000_0000;
+
+pub fn is_nan(word: u64) -> bool {
+    f64::from_bits(word).is_nan()
+}
+
+pub fn agree(expected: u64, got: u64) -> bool {
+    expected == got || (is_nan(expected) && is_nan(got))
+}
+
+/// The word of a value, every NaN as the one pattern.
+pub fn word_of(value: f64) -> u64 {
+    if value.is_nan() {
+        NAN
+    } else {
+        value.to_bits()
+    }
+}
+
+pub fn words_of(values: &[f64]) -> Vec<u64> {
+    values.iter().map(|&value| word_of(value)).collect()
+}
+
+pub fn values_of(words: &[u64]) -> Vec<f64> {
+    words.iter().map(|&word| f64::from_bits(word)).collect()
+}
+
+pub fn bytes_of(words: &[u64]) -> Vec<u8> {
+    words.iter().flat_map(|word| word.to_le_bytes()).collect()
+}
+
+/// The words of bytes, whose count is a multiple of 8.
+pub fn words_in(bytes: &[u8]) -> Vec<u64> {
+    let (words, rest) = bytes.as_chunks::<8>();
+    assert!(rest.is_empty(), "{} bytes are not words", bytes.len());
+    words.iter().map(|word| u64::from_le_bytes(*word)).collect()
+}
+
+/// At most this many words of a slice are shown in a message.
+const SHOWN: usize = 32;
+
+/// Words in hexadecimal, each with the value that it stands for.
+pub fn show_words(words: &[u64]) -> String {
+    let mut parts: Vec<String> = words
+        .iter()
+        .take(SHOWN)
+        .map(|&word| format!("{word:016X} ({:e})", f64::from_bits(word)))
+        .collect();
+    if words.len() > SHOWN {
+        parts.push(format!("and {} more", words.len() - SHOWN));
+    }
+    parts.join(", ")
+}
+
+/// Lent bytes as words, or as single bytes where they are not whole words.
+pub fn show_bytes(bytes: &[u8]) -> String {
+    if bytes.len().is_multiple_of(8) {
+        return format!("{} bytes: {}", bytes.len(), show_words(&words_in(bytes)));
+    }
+    let shown: Vec<String> = bytes
+        .iter()
+        .take(8 * SHOWN)
+        .map(|byte| format!("{byte:02X}"))
+        .collect();
+    format!("{} bytes: {}", bytes.len(), shown.join(" "))
+}

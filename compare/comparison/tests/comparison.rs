@@ -1,0 +1,42 @@
+// The comparison itself: every group of calls, the port against the original, bit for bit.
+// It has its own main, so that counts and seed are printed whether it passes or not.
+
+use std::process::exit;
+use std::time::Instant;
+
+use comparison::groups;
+use comparison::settings::{self, Settings};
+use comparison::tally::Tally;
+
+fn main() {
+    let settings = Settings::from_environment();
+    let mut tally = Tally::new();
+    let start = Instant::now();
+    println!(
+        "seed {} ({} gives another), size {} ({})",
+        settings.seed,
+        settings::SEED,
+        settings.size,
+        settings::SIZE
+    );
+    for group in groups::ALL {
+        (group.compare)(&settings, &mut tally);
+    }
+    tally.print();
+    let missing = tally.missing();
+    for answer in &missing {
+        println!("MISSING {answer}");
+    }
+    println!(
+        "{} cases, seed {}, size {}, {:.1} s: {} differences, {} answers missing",
+        tally.cases(),
+        settings.seed,
+        settings.size,
+        start.elapsed().as_secs_f64(),
+        tally.differences(),
+        missing.len()
+    );
+    if tally.differences() > 0 || !missing.is_empty() {
+        exit(1);
+    }
+}

@@ -1,0 +1,6 @@
+-- What is proved about the entry points, besides each function's promise.
+-- Assumes nothing.
+pub mod ShapeLaws
+pub mod OutcomeLaws
+pub mod OperationLaws
+pub mod TimedLaws

@@ -1,0 +1,134 @@
+-- What each operation asks of the values' lengths, and what it leaves.
+-- Assumes nothing.
+use mathlib.Core.Path.{_≡_, refl, sym, ap, _∙_}
+use mathlib.Core.List.{List, [], _∷_}
+use mathlib.Core.Bool.{Bool, true, false, cond}
+use Prim.Native.Nat.{ℕ, zero, suc, _*_, _≤_}
+use native.Mathlib.Omega.{arith}
+use lib.ListN.{length, getD}
+use lib.Ieee.{Float, Format}
+use Rattle.answers.specs.Checks.{firstOf}
+use Rattle.answers.specs.declared.Answer.{Answer}
+use Rattle.answers.specs.declared.Answer.the-variants.{Done}
+use Rattle.blocks.specs.Block.{product, applied, scaled, added, subtracted}
+use Rattle.blocks.specs.Inverse.{singular}
+use Rattle.wire.specs.Bytes.{valuesIn, bytesOf}
+use Rattle.lent.specs.Steps.{Dim, counted, productEach, applyEach, inverseEach, inverseOr, InvertingLast}
+use Rattle.lent.proofs.Once.{product-once, apply-once, inverse-once, answer-once}
+use Rattle.host.specs.Operations.{firstCount, secondCount, resultOf, laterOf, Shaped, Completed, Written}
+use Rattle.host.specs.declared.Operation.{Operation}
+use Rattle.host.specs.declared.Operation.the-variants.{Apply, Product, Scale, Add, Subtract, AddBlock, SubtractBlock, Inverse}
+
+-- ---- what is asked
+
+-- the counts of a row and of a block are counts of values
+pub row-counted : (n : ℕ) → Dim n → counted n ≡ true
+row-counted zero d = absurd (omega (arith, d .least))
+row-counted (suc zero) d = refl
+row-counted (suc (suc zero)) d = refl
+row-counted (suc (suc (suc zero))) d = refl
+row-counted (suc (suc (suc (suc n)))) d = absurd (omega (arith, d .most))
+
+pub block-counted : (n : ℕ) → Dim n → counted (n * n) ≡ true
+block-counted zero d = absurd (omega (arith, d .least))
+block-counted (suc zero) d = refl
+block-counted (suc (suc zero)) d = refl
+block-counted (suc (suc (suc zero))) d = refl
+block-counted (suc (suc (suc (suc n)))) d = absurd (omega (arith, d .most))
+
+-- a length at 1 to a value
+pub plain : (m k : ℕ) → m ≡ 1 * k → m ≡ k
+plain m k e = omega arith
+
+module _ (n x y z : ℕ) where
+  pub asked-apply : Shaped Apply n 1 x y z → (Dim n) × (n * 1 ≤ z) × (n * n * 1 ≤ x) × (n * 1 ≤ y)
+  asked-apply s = (s .dim, omega (arith, s .third), omega (arith, s .first), omega (arith, s .second))
+
+  pub asked-product : Shaped Product n 1 x y z → (Dim n) × (n * n * 1 ≤ z) × (n * n * 1 ≤ x) × (n * n * 1 ≤ y)
+  asked-product s = (s .dim, omega (arith, s .third), omega (arith, s .first), omega (arith, s .second))
+
+  pub asked-inverse : Shaped Inverse n 1 x y z → (Dim n) × (n * n * 1 ≤ z) × (n * n * 1 ≤ x)
+  asked-inverse s = (s .dim, omega (arith, s .third), omega (arith, s .first))
+
+  pub asked-scale : Shaped Scale n 1 x y z → (Dim x) × (z ≡ x)
+  asked-scale s =
+      let e : x ≡ n = plain x n (s .first) in
+      (rw e (s .dim), omega (arith, s .third))
+
+  -- of rows and of blocks alike
+  pub asked-values : (op : Operation) (m : ℕ) → firstCount op n ≡ m → secondCount op n ≡ m → counted m ≡ true → Shaped op n 1 x y z
+      → (counted x ≡ true) × (y ≡ x) × (z ≡ x)
+  asked-values op m p q known s =
+      let ex : x ≡ m = plain x m (rw p at (s .first)) in
+      let ey : y ≡ m = plain y m (rw q at (s .second)) in
+      let ez : z ≡ m = plain z m (rw q at (s .third)) in
+      (rw ex known, ey ∙ sym ex, ez ∙ sym ex)
+
+-- ---- what is left
+
+-- the row of 9 is 0, and no other answer has one
+row-of-nine : (t : Bool) → _≡_ {A = ℕ} (getD (cond t (0 ∷ []) []) 0 0) 0
+row-of-nine true = refl
+row-of-nine false = refl
+
+module _ (f : Format) (n : ℕ) (s : Float) (x y out z : List Float) where
+  pub left-apply : Shaped Apply n 1 (length x) (length y) (length out) → z ≡ applyEach f n x y 1 out → Completed f Apply n s x y z Done
+  left-apply h e =
+      record {
+        number = refl;
+        row = refl;
+        left = e ∙ apply-once f n x y out (plain _ _ (h .first)) (plain _ _ (h .second)) (plain _ _ (h .third));
+      }
+
+  pub left-product : Shaped Product n 1 (length x) (length y) (length out) → z ≡ productEach f n x y 1 out → Completed f Product n s x y z Done
+  left-product h e =
+      record {
+        number = refl;
+        row = refl;
+        left = e ∙ product-once f n x y out (plain _ _ (h .first)) (plain _ _ (h .second)) (plain _ _ (h .third));
+      }
+
+  pub left-scale : Shaped Scale n 1 (length x) (length y) (length out) → z ≡ scaled f (length x) x s → Completed f Scale n s x y z Done
+  left-scale h e = record { number = refl; row = refl; left = rw (plain _ _ (h .first)) at e }
+
+  pub left-add : Shaped Add n 1 (length x) (length y) (length out) → z ≡ added f (length x) x y → Completed f Add n s x y z Done
+  left-add h e = record { number = refl; row = refl; left = rw (plain _ _ (h .first)) at e }
+
+  pub left-subtract : Shaped Subtract n 1 (length x) (length y) (length out) → z ≡ subtracted f (length x) x y → Completed f Subtract n s x y z Done
+  left-subtract h e = record { number = refl; row = refl; left = rw (plain _ _ (h .first)) at e }
+
+  pub left-add-block : Shaped AddBlock n 1 (length x) (length y) (length out) → z ≡ added f (length x) x y → Completed f AddBlock n s x y z Done
+  left-add-block h e = record { number = refl; row = refl; left = rw (plain _ _ (h .first)) at e }
+
+  pub left-subtract-block : Shaped SubtractBlock n 1 (length x) (length y) (length out) → z ≡ subtracted f (length x) x y
+      → Completed f SubtractBlock n s x y z Done
+  left-subtract-block h e = record { number = refl; row = refl; left = rw (plain _ _ (h .first)) at e }
+
+  pub left-inverse : (answer : Answer) → Shaped Inverse n 1 (length x) (length y) (length out) → InvertingLast f n x 1 answer → z ≡ inverseEach f n x 1 out
+      → Completed f Inverse n s x y z answer
+  left-inverse answer h told e =
+      let long : length x ≡ n * n = plain _ _ (h .first) in
+      let given = answer-once f n (h .dim) x long answer told in
+      record {
+        number = given .number;
+        row = ap (λ (l : List ℕ). getD l 0 0) (given .row) ∙ row-of-nine (singular f n x);
+        left = e ∙ inverse-once f n (h .dim) x long out (plain _ _ (h .third));
+      }
+
+-- from the values back to bytes
+pub written : (f : Format) (op : Operation) (n : ℕ) (s : Float) (a b : List ℕ) (x y z : List Float) (out : List ℕ) (answer : Answer)
+    → x ≡ valuesIn f a → y ≡ valuesIn f b → Completed f op n s x y z answer → out ≡ bytesOf f z → Written f op n s a b out answer
+written f op n s a b x y z out answer ex ey done eo =
+    record {
+      number = done .number ∙ ap (λ (l : List Float). firstOf (laterOf f op n l)) ex;
+      row = done .row;
+      left = eo ∙ ap (bytesOf f) (done .left ∙ ap (λ (l : List Float). resultOf f op n s l y) ex ∙ ap (resultOf f op n s (valuesIn f a)) ey);
+    }
+
+-- room for the values
+pub roomy : (op : Operation) (n p q x y z : ℕ) → Dim n → p ≡ firstCount op n → q ≡ secondCount op n → x ≡ p → y ≡ q → z ≡ q → Shaped op n 1 x y z
+roomy op n p q x y z d ep eq ex ey ez =
+    record { dim = d; first = one (ex ∙ ep); second = one (ey ∙ eq); third = one (ez ∙ eq) }
+  where
+    one : {m k : ℕ} → m ≡ k → m ≡ 1 * k
+    one e = omega (arith, e)

@@ -1,0 +1,93 @@
+// The block calls over many blocks that lie one after the other, for a benchmark: no bytes are coded, so that none are timed.
+// Each does as many blocks as all its slices have room for, and nothing for an N other than 1, 2, 3.
+use crate::square;
+use lent::unchecked::apply_each;
+use lent::unchecked::inverse_each;
+use lent::unchecked::product_each;
+ghost use mathlib.Core.Path.{_≡_};
+ghost use mathlib.Core.Bool.{cond};
+ghost use Prim.Native.Nat.{_*_, _≤_};
+ghost use lib.ListN.{length};
+ghost use lib.Ieee.{binary64};
+ghost use Rattle.answers.specs.Limits.{outsideOf};
+ghost use Rattle.base.specs.Each.{eachTo};
+ghost use Rattle.lent.specs.Steps.{productEach, applyEach, inverseEach};
+ghost use Rattle.host.specs.Timed.{lesserOf, fittingOf, Fitting, rootAt};
+
+// Whether N is none of 1, 2, 3.
+fn is_outside(dim: u32) -> bool
+    ensures { λ r. ⌜ r ≡ outsideOf 1 3 dim ⌝ }
+{
+    if dim < 1 {
+        return true;
+    }
+    dim > 3
+}
+
+fn lesser(a: usize, b: usize) -> usize
+    ensures { λ r. ⌜ (r ≡ lesserOf a b) × (r ≤ a) × (r ≤ b) ⌝ }
+{
+    if a < b { a } else { b }
+}
+
+// As many parts as a length a has in parts of p, and b and c have in parts of q.
+fn fitting(p: usize, a: usize, q: usize, b: usize, c: usize) -> usize
+    requires { ⌜ (1 ≤ p) × (1 ≤ q) ⌝ }
+    ensures { λ r. ⌜ Fitting p a q b c r ⌝ }
+{
+    lesser(a / p, lesser(b / q, c / q))
+}
+
+#[no_mangle]
+pub extern "C" fn pierbramble_timed_product(dim: u32, a: &[f64], b: &[f64], out: &mut [f64])
+    ensures { λ _. ⌜ now (out .exit) ≡ cond (outsideOf 1 3 dim) (now (out .entry)) (productEach binary64 dim (now (a .entry)) (now (b .entry))
+        (fittingOf (dim * dim) (length (now (a .entry))) (dim * dim) (length (now (b .entry))) (length (now (out .entry))))
+        (now (out .entry))) ⌝ }
+{
+    if is_outside(dim) {
+        return;
+    }
+    let size = square(dim as usize);
+    let count = fitting(size, a.len(), size, b.len(), out.len());
+    product_each(out, dim as usize, a, b, count);
+}
+
+#[no_mangle]
+pub extern "C" fn pierbramble_timed_apply(dim: u32, a: &[f64], x: &[f64], out: &mut [f64])
+    ensures { λ _. ⌜ now (out .exit) ≡ cond (outsideOf 1 3 dim) (now (out .entry)) (applyEach binary64 dim (now (a .entry)) (now (x .entry))
+        (fittingOf (dim * dim) (length (now (a .entry))) dim (length (now (x .entry))) (length (now (out .entry))))
+        (now (out .entry))) ⌝ }
+{
+    if is_outside(dim) {
+        return;
+    }
+    let size = square(dim as usize);
+    let count = fitting(size, a.len(), dim as usize, x.len(), out.len());
+    apply_each(out, dim as usize, a, x, count);
+}
+
+#[no_mangle]
+pub extern "C" fn pierbramble_timed_inverse(dim: u32, a: &[f64], out: &mut [f64])
+    ensures { λ _. ⌜ now (out .exit) ≡ cond (outsideOf 1 3 dim) (now (out .entry)) (inverseEach binary64 dim (now (a .entry))
+        (fittingOf (dim * dim) (length (now (a .entry))) (dim * dim) (length (now (out .entry))) (length (now (out .entry))))
+        (now (out .entry))) ⌝ }
+{
+    if is_outside(dim) {
+        return;
+    }
+    let size = square(dim as usize);
+    let count = fitting(size, a.len(), size, out.len(), out.len());
+    inverse_each(out, dim as usize, a, count);
+}
+
+#[no_mangle]
+pub extern "C" fn pierbramble_timed_square_root(x: &[f64], out: &mut [f64])
+    ensures { λ _. ⌜ now (out .exit) ≡ eachTo (rootAt binary64 (now (x .entry))) (lesserOf (length (now (x .entry))) (length (now (out .entry)))) (now (out .entry)) ⌝ }
+{
+    let count = lesser(x.len(), out.len());
+    let mut i = 0;
+    while i < count {
+        out[i] = root::square_root(x[i]);
+        i += 1;
+    }
+}

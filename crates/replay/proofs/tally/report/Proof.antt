@@ -1,0 +1,18 @@
+-- `tally::report` is safe and ends: call counts the lines printed.
+-- Assumes nothing.
+use Prim.Native.Nat.{_≤_, _-_}
+use borrow.Author.Needs.{needs}
+use Rattle.replay.proofs.tally.report.Statement.{statement}
+use Rattle.replay.proofs.tally.report.Tie as tie
+
+abbrev Inv-loop : tie.InvT-loop
+Inv-loop t cases wrong call₀ t5 t6 t7 call = call ≤ 10
+
+abbrev μ-loop : tie.MeasureT-loop
+μ-loop t cases wrong call₀ t5 t6 t7 call = 10 - call
+
+pub report-spec : {M : Type 1} → statement M
+report-spec =
+    tie.close (tie.spec Inv-loop μ-loop (λ c. search needs) (λ c. search needs) (λ c. search needs) (λ c. search needs) (λ c. search needs)
+    (λ c κs. search needs) (λ c. search needs) (λ c. search needs) (λ c. search needs) (λ c. search needs) (λ c κs. search needs)
+    (λ c. search needs) (λ c κs. search needs) (λ c. search needs) (λ c κs. search needs) (λ c. search needs))

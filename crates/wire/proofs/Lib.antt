@@ -1,0 +1,4 @@
+-- What is proved about bytes, besides each function's promise.
+-- Assumes nothing.
+pub mod ByteLaws
+pub mod LoopLaws
