@@ -84,3 +84,23 @@ wrap! {
     /// Roots of as many numbers as are lent, for measuring.
     timed_square_root => pierbramble_timed_square_root(read x: f64, write out: f64)
 }
+wrap! {
+    /// Sums of as many vectors as are lent, for measuring.
+    timed_add => pierbramble_timed_add(take dim: u32, read u: f64, read v: f64, write out: f64)
+}
+wrap! {
+    /// Sums of as many blocks as are lent, for measuring.
+    timed_add_block => pierbramble_timed_add_block(take dim: u32, read u: f64, read v: f64, write out: f64)
+}
+wrap! {
+    /// Differences of as many vectors as are lent, for measuring.
+    timed_subtract => pierbramble_timed_subtract(take dim: u32, read u: f64, read v: f64, write out: f64)
+}
+wrap! {
+    /// Differences of as many blocks as are lent, for measuring.
+    timed_subtract_block => pierbramble_timed_subtract_block(take dim: u32, read u: f64, read v: f64, write out: f64)
+}
+wrap! {
+    /// As many vectors as are lent, scaled, for measuring.
+    timed_scale => pierbramble_timed_scale(take dim: u32, read v: f64, take s: f64, write out: f64)
+}

@@ -25,4 +25,9 @@ extern "C" {
     pub(crate) fn pierbramble_timed_apply(dim: u32, a: *const f64, a_count: usize, x: *const f64, x_count: usize, out: *mut f64, out_count: usize);
     pub(crate) fn pierbramble_timed_inverse(dim: u32, a: *const f64, a_count: usize, out: *mut f64, out_count: usize);
     pub(crate) fn pierbramble_timed_square_root(x: *const f64, x_count: usize, out: *mut f64, out_count: usize);
+    pub(crate) fn pierbramble_timed_add(dim: u32, u: *const f64, u_count: usize, v: *const f64, v_count: usize, out: *mut f64, out_count: usize);
+    pub(crate) fn pierbramble_timed_add_block(dim: u32, u: *const f64, u_count: usize, v: *const f64, v_count: usize, out: *mut f64, out_count: usize);
+    pub(crate) fn pierbramble_timed_subtract(dim: u32, u: *const f64, u_count: usize, v: *const f64, v_count: usize, out: *mut f64, out_count: usize);
+    pub(crate) fn pierbramble_timed_subtract_block(dim: u32, u: *const f64, u_count: usize, v: *const f64, v_count: usize, out: *mut f64, out_count: usize);
+    pub(crate) fn pierbramble_timed_scale(dim: u32, v: *const f64, v_count: usize, s: f64, out: *mut f64, out_count: usize);
 }

@@ -10,10 +10,10 @@ use lib.Ieee.{Float, Format}
 use Rattle.answers.specs.Checks.{firstOf}
 use Rattle.answers.specs.declared.Answer.{Answer}
 use Rattle.answers.specs.declared.Answer.the-variants.{Done}
-use Rattle.blocks.specs.Block.{product, applied, scaled, added, subtracted}
+use Rattle.blocks.specs.Block.{scaled, added, subtracted}
 use Rattle.blocks.specs.Inverse.{singular}
 use Rattle.wire.specs.Bytes.{valuesIn, bytesOf}
-use Rattle.lent.specs.Steps.{Dim, counted, productEach, applyEach, inverseEach, inverseOr, InvertingLast}
+use Rattle.lent.specs.Steps.{Dim, counted, productEach, applyEach, inverseEach, InvertingLast}
 use Rattle.lent.proofs.Once.{product-once, apply-once, inverse-once, answer-once}
 use Rattle.host.specs.Operations.{firstCount, secondCount, resultOf, laterOf, Shaped, Completed, Written}
 use Rattle.host.specs.declared.Operation.{Operation}

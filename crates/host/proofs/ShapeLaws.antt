@@ -1,21 +1,16 @@
 -- The ways on which a call is found misshapen, and what is known where it is not.
 -- Assumes nothing.
-use mathlib.Core.Path.{_≡_, refl, sym, ap, _∙_}
-use mathlib.Core.List.{List, [], _∷_}
-use mathlib.Core.Bool.{Bool, true, false, not, _||_, cond}
-use Prim.Native.Nat.{ℕ, _*_, _≤_, _<_}
-use native.Mathlib.Omega.{arith}
-use borrow.Author.Tests.{lt-ltb, le-ltb, eq-eqb, ne-eqb, ltb-false, eqb-true}
+use mathlib.Core.Path.{_≡_, refl, sym}
+use mathlib.Core.Bool.{Bool, true, false, not, _||_}
+use Prim.Native.Nat.{ℕ, _*_, _≤_}
+use borrow.Author.Tests.{le-ltb, eq-eqb, ne-eqb, ltb-false, eqb-true}
 use lib.Dec.{eqb, ltb}
-use lib.Ieee.{Float, Format, binary64}
+use lib.Ieee.{binary64}
 use Rattle.answers.specs.Limits.{outsideOf}
-use Rattle.answers.specs.Checks.{Check, firstOf, _when_}
-use Rattle.wire.specs.Bytes.{bytesOf}
 use Rattle.lent.specs.Steps.{Dim}
-use Rattle.host.specs.Calls.{Lent, _bytes-for_, wrongBytes, misshapen, Answered, Checked}
+use Rattle.host.specs.Calls.{wrongBytes, misshapen}
 use Rattle.host.specs.Operations.{firstCount, secondCount, lentOf, Shaped}
 use Rattle.host.specs.declared.Operation.{Operation}
-use Rattle.host.specs.declared.Outcome.{Outcome}
 
 module _ (op : Operation) (d a b out p q : ℕ) (least : 1 ≤ d) (most : d ≤ 3) (ep : p ≡ firstCount op d) (eq : q ≡ secondCount op d) where
   pub wrong-first : (a ≡ 8 * p → ⊥) → true ≡ misshapen binary64 d (lentOf op d a b out)

@@ -5,8 +5,9 @@ use mathlib.Core.List.{List}
 use mathlib.Core.Bool.{cond}
 use Prim.Native.Nat.{ℕ, _*_, _/_, _≤_}
 use lib.Dec.{ltb}
-use lib.ListN.{getD}
+use lib.ListN.{length, getD}
 use lib.Ieee.{Float, Format, nan}
+use Rattle.lent.specs.Steps.{eachPart}
 use Rattle.root.specs.Sqrt.{sqrt}
 
 -- the lesser of two numbers
@@ -27,3 +28,7 @@ pub record Fitting (p a q b c count : ℕ) : Type 0 where
 -- value i becomes the root of value i of x
 unfoldable pub rootAt : Format → List Float → ℕ → Float → Float
 rootAt f x i old = sqrt f (getD x i nan)
+
+-- as many parts of m values as u, v and out have, each what op makes of those of u and v
+abbrev pub partsOf : (List Float → List Float → List Float) → ℕ → List Float → List Float → List Float → List Float
+partsOf op m u v out = eachPart op m u v (fittingOf m (length u) m (length v) (length out)) out

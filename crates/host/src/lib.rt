@@ -21,9 +21,9 @@ ghost use Rattle.answers.specs.Checks.{_when_};
 ghost use Rattle.answers.specs.Limits.{vectorChecks};
 ghost use Rattle.blocks.specs.Block.{product, applied, scaled, added, subtracted};
 ghost use Rattle.blocks.specs.Inverse.{singular};
-ghost use Rattle.lent.specs.Steps.{Dim, inverseOr};
+ghost use Rattle.lent.specs.Steps.{inverseOr};
 ghost use Rattle.root.specs.Sqrt.{sqrt};
-ghost use Rattle.wire.specs.Bytes.{valuesIn, bytesOf};
+ghost use Rattle.wire.specs.Bytes.{valuesIn};
 ghost use Rattle.host.specs.Calls.{_bytes-for_, misshapen, Answered, Checked};
 ghost use Rattle.host.specs.Operations.{firstCount, secondCount, resultOf, laterOf, lentOf, Shaped, Completed, Written};
 

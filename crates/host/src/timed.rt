@@ -1,18 +1,22 @@
 // The block calls over many blocks that lie one after the other, for a benchmark: no bytes are coded, so that none are timed.
 // Each does as many blocks as all its slices have room for, and nothing for an N other than 1, 2, 3.
 use crate::square;
+use lent::unchecked::add_each;
 use lent::unchecked::apply_each;
 use lent::unchecked::inverse_each;
 use lent::unchecked::product_each;
+use lent::unchecked::scale_each;
+use lent::unchecked::subtract_each;
 ghost use mathlib.Core.Path.{_≡_};
-ghost use mathlib.Core.Bool.{cond};
+ghost use mathlib.Core.Bool.{true, cond};
 ghost use Prim.Native.Nat.{_*_, _≤_};
 ghost use lib.ListN.{length};
 ghost use lib.Ieee.{binary64};
 ghost use Rattle.answers.specs.Limits.{outsideOf};
 ghost use Rattle.base.specs.Each.{eachTo};
-ghost use Rattle.lent.specs.Steps.{productEach, applyEach, inverseEach};
-ghost use Rattle.host.specs.Timed.{lesserOf, fittingOf, Fitting, rootAt};
+ghost use Rattle.blocks.specs.Block.{scaled, added, subtracted};
+ghost use Rattle.lent.specs.Steps.{productEach, applyEach, inverseEach, counted};
+ghost use Rattle.host.specs.Timed.{lesserOf, fittingOf, Fitting, rootAt, partsOf};
 
 // Whether N is none of 1, 2, 3.
 fn is_outside(dim: u32) -> bool
@@ -90,4 +94,74 @@ pub extern "C" fn pierbramble_timed_square_root(x: &[f64], out: &mut [f64])
         out[i] = root::square_root(x[i]);
         i += 1;
     }
+}
+
+// The sums of as many parts as fit.
+fn add_all(size: usize, u: &[f64], v: &[f64], out: &mut [f64])
+    requires { ⌜ counted size ≡ true ⌝ }
+    ensures { λ _. ⌜ now (out .exit) ≡ partsOf (added binary64 size) size (now (u .entry)) (now (v .entry)) (now (out .entry)) ⌝ }
+{
+    let count = fitting(size, u.len(), size, v.len(), out.len());
+    add_each(out, size, u, v, count);
+}
+
+#[no_mangle]
+pub extern "C" fn pierbramble_timed_add(dim: u32, u: &[f64], v: &[f64], out: &mut [f64])
+    ensures { λ _. ⌜ now (out .exit) ≡ cond (outsideOf 1 3 dim) (now (out .entry)) (partsOf (added binary64 dim) dim (now (u .entry)) (now (v .entry)) (now (out .entry))) ⌝ }
+{
+    if is_outside(dim) {
+        return;
+    }
+    add_all(dim as usize, u, v, out);
+}
+
+#[no_mangle]
+pub extern "C" fn pierbramble_timed_add_block(dim: u32, u: &[f64], v: &[f64], out: &mut [f64])
+    ensures { λ _. ⌜ now (out .exit) ≡ cond (outsideOf 1 3 dim) (now (out .entry)) (partsOf (added binary64 (dim * dim)) (dim * dim) (now (u .entry)) (now (v .entry)) (now (out .entry))) ⌝ }
+{
+    if is_outside(dim) {
+        return;
+    }
+    add_all(square(dim as usize), u, v, out);
+}
+
+// The differences of as many parts as fit.
+fn subtract_all(size: usize, u: &[f64], v: &[f64], out: &mut [f64])
+    requires { ⌜ counted size ≡ true ⌝ }
+    ensures { λ _. ⌜ now (out .exit) ≡ partsOf (subtracted binary64 size) size (now (u .entry)) (now (v .entry)) (now (out .entry)) ⌝ }
+{
+    let count = fitting(size, u.len(), size, v.len(), out.len());
+    subtract_each(out, size, u, v, count);
+}
+
+#[no_mangle]
+pub extern "C" fn pierbramble_timed_subtract(dim: u32, u: &[f64], v: &[f64], out: &mut [f64])
+    ensures { λ _. ⌜ now (out .exit) ≡ cond (outsideOf 1 3 dim) (now (out .entry)) (partsOf (subtracted binary64 dim) dim (now (u .entry)) (now (v .entry)) (now (out .entry))) ⌝ }
+{
+    if is_outside(dim) {
+        return;
+    }
+    subtract_all(dim as usize, u, v, out);
+}
+
+#[no_mangle]
+pub extern "C" fn pierbramble_timed_subtract_block(dim: u32, u: &[f64], v: &[f64], out: &mut [f64])
+    ensures { λ _. ⌜ now (out .exit) ≡ cond (outsideOf 1 3 dim) (now (out .entry)) (partsOf (subtracted binary64 (dim * dim)) (dim * dim) (now (u .entry)) (now (v .entry)) (now (out .entry))) ⌝ }
+{
+    if is_outside(dim) {
+        return;
+    }
+    subtract_all(square(dim as usize), u, v, out);
+}
+
+#[no_mangle]
+pub extern "C" fn pierbramble_timed_scale(dim: u32, v: &[f64], s: f64, out: &mut [f64])
+    ensures { λ _. ⌜ now (out .exit) ≡ cond (outsideOf 1 3 dim) (now (out .entry)) (partsOf (λ x _. scaled binary64 dim x s) dim (now (v .entry)) (now (v .entry)) (now (out .entry))) ⌝ }
+{
+    if is_outside(dim) {
+        return;
+    }
+    let size = dim as usize;
+    let count = fitting(size, v.len(), size, v.len(), out.len());
+    scale_each(out, size, v, s, count);
 }

@@ -1,14 +1,14 @@
 -- An operation in three steps, for every N at once: the operands are read, the result is made, and the result is put in its place.
 -- Assumes nothing.
-use mathlib.Core.Path.{_≡_, refl, sym, ap, _∙_}
+use mathlib.Core.Path.{_≡_, ap, _∙_}
 use mathlib.Core.List.{List, [], _∷_}
 use mathlib.Core.Bool.{cond}
 use Prim.Native.Nat.{ℕ, _*_}
 use lib.Ieee.{Float, Format}
 use Rattle.answers.specs.declared.Answer.{Answer}
 use Rattle.answers.specs.Checks.{firstOf, _when_}
-use Rattle.blocks.specs.Block.{product, applied, scaled, added, subtracted}
-use Rattle.blocks.specs.Inverse.{inverse, singular, Inverted}
+use Rattle.blocks.specs.Block.{product, applied}
+use Rattle.blocks.specs.Inverse.{singular, Inverted}
 use Rattle.blocks.specs.Lent.{blockAt, vectorAt, putAt}
 use Rattle.lent.specs.Steps.{productAt, applyAt, inverseAt, inverseOr, Inverting}
 

@@ -3,3 +3,4 @@
 pub mod Joined
 pub mod Whole
 pub mod Once
+pub mod PartLaws

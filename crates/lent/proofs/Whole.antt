@@ -1,13 +1,13 @@
 -- An operation on slices that are one row or one block each, for every number of values at once: what is read is all of an operand, and the result fills out.
 -- Assumes nothing.
-use mathlib.Core.Path.{_≡_, refl, sym, ap, _∙_}
-use mathlib.Core.List.{List, [], _∷_, _++_, append-nil}
+use mathlib.Core.Path.{_≡_, ap, _∙_}
+use mathlib.Core.List.{List, append-nil}
 use mathlib.Core.Bool.{true}
-use Prim.Native.Nat.{ℕ, _+_, _*_, _≤_}
+use Prim.Native.Nat.{ℕ, _+_, _≤_}
 use native.Mathlib.Omega.{arith}
 use borrow.Author.Tests.{ne-eqb, eqb-true}
-use lib.ListN.{length, take, drop, drop-of-length-le}
-use lib.Seq.{paste, take-all}
+use lib.ListN.{length, drop-of-length-le}
+use lib.Seq.{take-all}
 use lib.Ieee.{Float}
 use Rattle.blocks.specs.Lent.{valuesAt, putAt}
 use Rattle.blocks.proofs.LentLaws.{values-part}

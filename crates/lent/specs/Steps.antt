@@ -1,10 +1,11 @@
 -- Block operations where the blocks lie in lent slices: block e of a slice, replaced by the result of an operation on blocks of other slices.
 -- Each is at any format f and any N. Definitions only.
 use mathlib.Core.Path.{_≡_}
-use mathlib.Core.List.{List, [], _∷_}
-use mathlib.Core.Bool.{Bool, cond, _||_}
+use mathlib.Core.List.{List, [], _∷_, _++_}
+use mathlib.Core.Bool.{Bool, true, cond, _||_}
 use Prim.Native.Nat.{ℕ, zero, suc, _+_, _*_, _≤_}
 use lib.Dec.{eqb}
+use lib.ListN.{take, drop}
 use lib.Ieee.{Float, Format}
 use Rattle.base.specs.Iterate.{iterate}
 use Rattle.answers.specs.declared.Answer.{Answer}
@@ -64,3 +65,11 @@ InvertingLast f n a (suc k) answer = Inverting f n (blockAt n a k) answer
 -- as many values as a row or a block has: N or N * N for an N of 1, 2, 3
 abbrev pub counted : ℕ → Bool
 counted m = eqb m 1 || eqb m 2 || eqb m 3 || eqb m 4 || eqb m 9
+
+-- part k of z, of m values, replaced by what op makes of part k of u and part k of v
+unfoldable pub partAt : (List Float → List Float → List Float) → ℕ → List Float → List Float → ℕ → List Float → List Float
+partAt op m u v k z = take (m * k) z ++ (op (take m (drop (m * k) u)) (take m (drop (m * k) v)) ++ drop m (drop (m * k) z))
+
+-- the first parts of out, one after the other
+unfoldable pub eachPart : (List Float → List Float → List Float) → ℕ → List Float → List Float → ℕ → List Float → List Float
+eachPart op m u v count out = iterate (partAt op m u v) 0 count out

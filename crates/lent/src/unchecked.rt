@@ -15,7 +15,7 @@ ghost use lib.ListN.{length};
 ghost use lib.Ieee.{binary64};
 ghost use Rattle.blocks.specs.Block.{added, subtracted, scaled};
 ghost use Rattle.blocks.specs.Lent.{blockAt};
-ghost use Rattle.lent.specs.Steps.{Dim, Within, productAt, applyAt, inverseAt, Inverting, productEach, applyEach, inverseEach, InvertingLast, counted};
+ghost use Rattle.lent.specs.Steps.{Dim, Within, productAt, applyAt, inverseAt, Inverting, productEach, applyEach, inverseEach, InvertingLast, counted, partAt, eachPart};
 
 // Block e of out: the product of block i of a and block j of b.
 pub fn product_at(out: &mut [f64], e: usize, dim: usize, a: &[f64], i: usize, b: &[f64], j: usize)
@@ -169,5 +169,71 @@ pub fn scale(out: &mut [f64], v: &[f64], s: f64)
         1 => put(out, 0, &blocks::scale_1(vector_1(v, 0), s)),
         2 => put(out, 0, &blocks::scale_2(vector_2(v, 0), s)),
         _ => put(out, 0, &blocks::scale_3(vector_3(v, 0), s)),
+    }
+}
+
+// Part k of out, of `size` values: the sum of part k of u and part k of v.
+fn add_part(out: &mut [f64], k: usize, size: usize, u: &[f64], v: &[f64])
+    requires { ⌜ (counted size ≡ true) × (Within size k (length (now out))) × (Within size k (length (now u))) × (Within size k (length (now v))) ⌝ }
+    ensures { λ _. ⌜ now (out .exit) ≡ partAt (added binary64 size) size (now (u .entry)) (now (v .entry)) k (now (out .entry)) ⌝ }
+{
+    let from = size * k;
+    let to = from + size;
+    add(&mut out[from..to], &u[from..to], &v[from..to]);
+}
+
+// The first `count` parts of out likewise.
+pub fn add_each(out: &mut [f64], size: usize, u: &[f64], v: &[f64], count: usize)
+    requires { ⌜ (counted size ≡ true) × (size * count ≤ length (now out)) × (size * count ≤ length (now u)) × (size * count ≤ length (now v)) ⌝ }
+    ensures { λ _. ⌜ now (out .exit) ≡ eachPart (added binary64 size) size (now (u .entry)) (now (v .entry)) count (now (out .entry)) ⌝ }
+{
+    let mut k = 0;
+    while k < count {
+        add_part(out, k, size, u, v);
+        k += 1;
+    }
+}
+
+// The same with differences.
+fn subtract_part(out: &mut [f64], k: usize, size: usize, u: &[f64], v: &[f64])
+    requires { ⌜ (counted size ≡ true) × (Within size k (length (now out))) × (Within size k (length (now u))) × (Within size k (length (now v))) ⌝ }
+    ensures { λ _. ⌜ now (out .exit) ≡ partAt (subtracted binary64 size) size (now (u .entry)) (now (v .entry)) k (now (out .entry)) ⌝ }
+{
+    let from = size * k;
+    let to = from + size;
+    subtract(&mut out[from..to], &u[from..to], &v[from..to]);
+}
+
+// The first `count` parts likewise.
+pub fn subtract_each(out: &mut [f64], size: usize, u: &[f64], v: &[f64], count: usize)
+    requires { ⌜ (counted size ≡ true) × (size * count ≤ length (now out)) × (size * count ≤ length (now u)) × (size * count ≤ length (now v)) ⌝ }
+    ensures { λ _. ⌜ now (out .exit) ≡ eachPart (subtracted binary64 size) size (now (u .entry)) (now (v .entry)) count (now (out .entry)) ⌝ }
+{
+    let mut k = 0;
+    while k < count {
+        subtract_part(out, k, size, u, v);
+        k += 1;
+    }
+}
+
+// Row k of out: row k of v, scaled by s.
+fn scale_part(out: &mut [f64], k: usize, size: usize, v: &[f64], s: f64)
+    requires { ⌜ (Dim size) × (Within size k (length (now out))) × (Within size k (length (now v))) ⌝ }
+    ensures { λ _. ⌜ now (out .exit) ≡ partAt (λ x _. scaled binary64 size x s) size (now (v .entry)) (now (v .entry)) k (now (out .entry)) ⌝ }
+{
+    let from = size * k;
+    let to = from + size;
+    scale(&mut out[from..to], &v[from..to], s);
+}
+
+// The first `count` rows likewise.
+pub fn scale_each(out: &mut [f64], size: usize, v: &[f64], s: f64, count: usize)
+    requires { ⌜ (Dim size) × (size * count ≤ length (now out)) × (size * count ≤ length (now v)) ⌝ }
+    ensures { λ _. ⌜ now (out .exit) ≡ eachPart (λ x _. scaled binary64 size x s) size (now (v .entry)) (now (v .entry)) count (now (out .entry)) ⌝ }
+{
+    let mut k = 0;
+    while k < count {
+        scale_part(out, k, size, v, s);
+        k += 1;
     }
 }

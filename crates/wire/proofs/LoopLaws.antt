@@ -2,16 +2,16 @@
 -- Assumes nothing.
 use mathlib.Core.Path.{_≡_, refl, sym, ap, _∙_}
 use mathlib.Core.List.{List, [], _∷_, _++_, append-assoc, append-nil}
-use Prim.Native.Nat.{ℕ, zero, suc, _+_, _-_, _*_, _/_, _%_, _≤_, _<_}
+use Prim.Native.Nat.{ℕ, suc, _+_, _-_, _*_, _/_, _%_, _≤_, _<_}
 use native.Mathlib.Numerals.{add-one}
 use native.Mathlib.Omega.{arith}
-use lib.ListN.{length, take, drop, getD, length-append, length-drop, length-take}
-use lib.Seq.{paste, take-at, drop-at, drop-cons, drop-drop, take-suc, getD-drop, take-length, drop-length, take-all, length-take-le}
-use lib.Ieee.{Float, Format, nan, ofBits, toBits}
+use lib.ListN.{length, take, drop, getD}
+use lib.Seq.{paste, take-at, drop-at, drop-cons, drop-drop, take-suc, take-length, drop-length, take-all, length-take-le}
+use lib.Ieee.{Float, Format, nan, toBits}
 use Rattle.base.specs.Each.{each}
 use Rattle.base.proofs.Each.{each-same}
-use Rattle.wire.specs.Bytes.{bytesEach, bytesOfWord, wordOf, bytesOf, valueIn, valuesTo, valuesIn}
-use Rattle.wire.proofs.ByteLaws.{length-word, length-bytes, whole}
+use Rattle.wire.specs.Bytes.{bytesEach, bytesOfWord, wordOf, bytesOf, valueIn, valuesTo}
+use Rattle.wire.proofs.ByteLaws.{length-word, length-bytes}
 
 -- ---- a word read
 

@@ -2,6 +2,7 @@
 // Both sides get the same slices of doubles, in the original's own layout; here they are held to each other.
 
 use del_geo_core::matn_col_major;
+use del_geo_core::vecn::VecN;
 
 use super::Group;
 use crate::random::Random;
@@ -76,6 +77,85 @@ pub const TIMED: &[Timed] = &[
         },
     },
     Timed {
+        name: "timed_add",
+        dims: &[1, 2, 3],
+        unit: "vectors",
+        inputs: |dim, count, random| {
+            vec![ordinary(dim * count, random), ordinary(dim * count, random)]
+        },
+        output: |dim| dim,
+        port: |dim, s, out| port::timed_add(dim as u32, &s[0], &s[1], out),
+        rust: |dim, s, out| match dim {
+            1 => sums::<1>(&s[0], &s[1], out),
+            2 => sums::<2>(&s[0], &s[1], out),
+            _ => sums::<3>(&s[0], &s[1], out),
+        },
+    },
+    Timed {
+        name: "timed_add_block",
+        dims: &[1, 2, 3],
+        unit: "blocks",
+        inputs: |dim, count, random| {
+            vec![
+                ordinary(dim * dim * count, random),
+                ordinary(dim * dim * count, random),
+            ]
+        },
+        output: |dim| dim * dim,
+        port: |dim, s, out| port::timed_add_block(dim as u32, &s[0], &s[1], out),
+        rust: |dim, s, out| match dim {
+            1 => sums::<1>(&s[0], &s[1], out),
+            2 => sums::<4>(&s[0], &s[1], out),
+            _ => sums::<9>(&s[0], &s[1], out),
+        },
+    },
+    Timed {
+        name: "timed_subtract",
+        dims: &[1, 2, 3],
+        unit: "vectors",
+        inputs: |dim, count, random| {
+            vec![ordinary(dim * count, random), ordinary(dim * count, random)]
+        },
+        output: |dim| dim,
+        port: |dim, s, out| port::timed_subtract(dim as u32, &s[0], &s[1], out),
+        rust: |dim, s, out| match dim {
+            1 => differences::<1>(&s[0], &s[1], out),
+            2 => differences::<2>(&s[0], &s[1], out),
+            _ => differences::<3>(&s[0], &s[1], out),
+        },
+    },
+    Timed {
+        name: "timed_subtract_block",
+        dims: &[1, 2, 3],
+        unit: "blocks",
+        inputs: |dim, count, random| {
+            vec![
+                ordinary(dim * dim * count, random),
+                ordinary(dim * dim * count, random),
+            ]
+        },
+        output: |dim| dim * dim,
+        port: |dim, s, out| port::timed_subtract_block(dim as u32, &s[0], &s[1], out),
+        rust: |dim, s, out| match dim {
+            1 => differences::<1>(&s[0], &s[1], out),
+            2 => differences::<4>(&s[0], &s[1], out),
+            _ => differences::<9>(&s[0], &s[1], out),
+        },
+    },
+    Timed {
+        name: "timed_scale",
+        dims: &[1, 2, 3],
+        unit: "vectors",
+        inputs: |dim, count, random| vec![ordinary(dim * count, random)],
+        output: |dim| dim,
+        port: |dim, s, out| port::timed_scale(dim as u32, &s[0], FACTOR, out),
+        rust: |dim, s, out| match dim {
+            1 => scalings::<1>(&s[0], out),
+            2 => scalings::<2>(&s[0], out),
+            _ => scalings::<3>(&s[0], out),
+        },
+    },
+    Timed {
         name: "timed_square_root",
         dims: &[1],
         unit: "values",
@@ -130,11 +210,37 @@ fn inverses<const N: usize, const NN: usize>(a: &[f64], out: &mut [f64]) {
     }
 }
 
+/// What vectors are scaled by: a number that rounds almost every product.
+const FACTOR: f64 = -0.7;
+
+fn sums<const M: usize>(u: &[f64], v: &[f64], out: &mut [f64]) {
+    let (u, v) = (u.as_chunks::<M>().0, v.as_chunks::<M>().0);
+    for ((u, v), out) in u.iter().zip(v).zip(out.as_chunks_mut::<M>().0) {
+        *out = u.add(v);
+    }
+}
+
+fn differences<const M: usize>(u: &[f64], v: &[f64], out: &mut [f64]) {
+    let (u, v) = (u.as_chunks::<M>().0, v.as_chunks::<M>().0);
+    for ((u, v), out) in u.iter().zip(v).zip(out.as_chunks_mut::<M>().0) {
+        *out = u.sub(v);
+    }
+}
+
+fn scalings<const M: usize>(v: &[f64], out: &mut [f64]) {
+    for (v, out) in v.as_chunks::<M>().0.iter().zip(out.as_chunks_mut::<M>().0) {
+        *out = v.scale(FACTOR);
+    }
+}
+
 fn roots(x: &[f64], out: &mut [f64]) {
     for (x, out) in x.iter().zip(out) {
         *out = x.sqrt();
     }
 }
+
+/// Cases for each count of blocks.
+const CASES: usize = 100;
 
 const COUNTS: [usize; 7] = [0, 1, 2, 3, 17, 64, 256];
 
@@ -148,7 +254,7 @@ fn compare(settings: &Settings, tally: &mut Tally) {
             eprintln!("comparing {}, N = {dim}", timed.name);
             tally.can_answer(timed.name, label(timed, dim), &[0]);
             for count in COUNTS {
-                for _ in 0..settings.cases(20) {
+                for _ in 0..settings.cases(CASES) {
                     try_count(timed, dim, count, random, tally);
                 }
             }
@@ -165,25 +271,44 @@ fn label(timed: &Timed, dim: usize) -> Dim {
 }
 
 fn try_count(timed: &Timed, dim: usize, count: usize, random: &mut Random, tally: &mut Tally) {
-    let inputs = (timed.inputs)(dim, count, random);
-    let length = count * (timed.output)(dim);
+    let mut inputs = (timed.inputs)(dim, count, random);
+    let mut length = count * (timed.output)(dim);
+    if random.flip() {
+        for input in &mut inputs {
+            *input = words::values_of(&values::mixed(input.len(), random));
+        }
+    }
+    if random.flip() {
+        shorten(&mut inputs, &mut length, random);
+    }
     let dirty: Vec<f64> = ordinary(length + 2 * GUARD, random);
     let (mut expected, mut got) = (dirty.clone(), dirty);
     let inside = GUARD..GUARD + length;
     (timed.rust)(dim, &inputs, &mut expected[inside.clone()]);
     (timed.port)(dim, &inputs, &mut got[inside]);
     let (expected, got) = (words::words_of(&expected), words::words_of(&got));
+    let nans = expected.iter().filter(|&&word| words::is_nan(word)).count();
     tally.answered(timed.name, label(timed, dim), 0, 1);
-    tally.compared(timed.name, label(timed, dim), length as u64, 0);
+    tally.compared(timed.name, label(timed, dim), length as u64, nans as u64);
     if let Some(at) = (0..got.len()).find(|&at| expected[at] != got[at]) {
         tally.differs(timed.name, label(timed, dim), || {
+            let lengths: Vec<usize> = inputs.iter().map(Vec::len).collect();
             format!(
-                "  {count} {}, place {} of out (of {length})\n  expected: {}\n  got:      {}\n",
+                "  {count} {}, inputs of {lengths:?} values, place {} of out (of {length})\n  expected: {}\n  got:      {}\n",
                 timed.unit,
                 at as i64 - GUARD as i64,
                 words::show_words(&expected[at..at + 1]),
                 words::show_words(&got[at..at + 1])
             )
         });
+    }
+}
+
+/// Takes values from the end of one of the slices: both sides do as many blocks as all of them hold.
+fn shorten(inputs: &mut [Vec<f64>], length: &mut usize, random: &mut Random) {
+    let at = random.below(inputs.len() + 1);
+    match inputs.get_mut(at) {
+        Some(input) => input.truncate(random.below(input.len() + 1)),
+        None => *length = random.below(*length + 1),
     }
 }

@@ -1,7 +1,7 @@
 -- `timed::pierbramble_timed_apply` meets its promise: nothing for another N, else as many rows as fit.
 -- Assumes nothing.
-use mathlib.Core.Path.{_≡_, sym, ap, _∙_}
-use Prim.Native.Nat.{ℕ, _*_, _≤_}
+use mathlib.Core.Path.{sym, ap, _∙_}
+use Prim.Native.Nat.{ℕ, _≤_}
 use lib.Ieee.{binary64}
 use Rattle.base.proofs.Sizes.{square-pos}
 use Rattle.lent.specs.Steps.{applyEach}

@@ -1,10 +1,9 @@
 -- `unchecked::subtract` meets its promise: on each way the operands are read whole, and the result fills out.
 -- Assumes nothing.
 use mathlib.Core.Path.{_≡_, _∙_}
-use mathlib.Core.List.{List}
 use native.Mathlib.Omega.{arith}
 use lib.ListN.{length}
-use lib.Ieee.{Float, binary64}
+use lib.Ieee.{binary64}
 use borrow.Author.Needs.{needs}
 use Rattle.blocks.specs.Block.{subtracted}
 use Rattle.lent.proofs.Whole.{whole-two, nine}

@@ -1,14 +1,11 @@
 -- `unchecked::encode` meets its promise: after i turns the bytes of the first i values are written.
 -- Assumes nothing.
-use mathlib.Core.Path.{_≡_, refl, sym, ap, _∙_}
-use mathlib.Core.List.{List}
-use Prim.Native.Nat.{ℕ, _*_, _-_, _≤_, _<_}
+use mathlib.Core.Path.{_≡_, refl, _∙_}
+use Prim.Native.Nat.{_-_, _≤_, _<_}
 use native.Mathlib.Omega.{arith}
 use lib.ListN.{length}
-use lib.Seq.{paste}
-use lib.Ieee.{Float, binary64, nan}
+use lib.Ieee.{binary64}
 use borrow.Author.Needs.{needs}
-use Rattle.wire.specs.Bytes.{bytesOfWord}
 use Rattle.wire.proofs.LoopLaws.{written, write-none, write-turn, write-all}
 use Rattle.wire.proofs.unchecked.encode.Statement.{statement}
 use Rattle.wire.proofs.unchecked.encode.Tie as tie

@@ -1,6 +1,6 @@
 -- `unchecked::write_word` meets its promise: after k turns the first k bytes are in their places, and what is left of the word has the others.
 -- Assumes nothing.
-use mathlib.Core.Path.{_≡_, refl, sym, _∙_}
+use mathlib.Core.Path.{_≡_, refl}
 use Prim.Native.Nat.{_-_, _≤_}
 use native.Mathlib.Omega.{arith}
 use native.Mathlib.Numerals.{add-one}

@@ -1,0 +1,24 @@
+-- `timed::pierbramble_timed_add` meets its promise: nothing for another N, else as many rows as fit.
+-- Assumes nothing.
+use mathlib.Core.Path.{sym, _∙_}
+use Rattle.host.proofs.ShapeLaws.{dim-of}
+use Rattle.host.proofs.OperationLaws.{row-counted}
+use borrow.Author.Needs.{needs}
+use Rattle.host.proofs.timed.pierbramble_timed_add.Statement.{statement}
+use Rattle.host.proofs.timed.pierbramble_timed_add.Tie as tie
+
+returns : tie.Need-returns
+returns c =
+    rw (sym (c .before .is-outside .ensures) ∙ c .if1 .taken)
+
+add-all-requires : tie.Need-add-all-requires
+add-all-requires c κs =
+    row-counted (c .before .before .before .before .before .before .args .dim) (dim-of _ (sym (c .before .before .is-outside .ensures) ∙ c .before .if1 .left))
+
+returns-2 : tie.Need-returns-2
+returns-2 c =
+    rw (sym (c .before .before .before .before .before .is-outside .ensures) ∙ c .before .before .before .before .if1 .left) (c .before .before .add-all .ensures)
+
+pub pierbramble-timed-add-spec : {M : Type 1} → statement M
+pierbramble-timed-add-spec =
+    tie.close (tie.spec (λ c κs. search needs) returns add-all-requires (λ c. search needs) returns-2)
