@@ -13,8 +13,8 @@ use Rattle.answers.specs.declared.Answer.the-variants.{Done}
 use Rattle.blocks.specs.Block.{scaled, added, subtracted}
 use Rattle.blocks.specs.Inverse.{singular}
 use Rattle.wire.specs.Bytes.{valuesIn, bytesOf}
-use Rattle.lent.specs.Steps.{Dim, counted, productEach, applyEach, inverseEach, InvertingLast}
-use Rattle.lent.proofs.Once.{product-once, apply-once, inverse-once, answer-once}
+use Rattle.lent.specs.Steps.{Dim, counted, productEach, applyEach, inverseEach, InvertingLast, eachPart}
+use Rattle.lent.proofs.Once.{product-once, apply-once, inverse-once, answer-once, parts-once}
 use Rattle.host.specs.Operations.{firstCount, secondCount, resultOf, laterOf, Shaped, Completed, Written}
 use Rattle.host.specs.declared.Operation.{Operation}
 use Rattle.host.specs.declared.Operation.the-variants.{Apply, Product, Scale, Add, Subtract, AddBlock, SubtractBlock, Inverse}
@@ -50,19 +50,19 @@ module _ (n x y z : ℕ) where
   pub asked-inverse : Shaped Inverse n 1 x y z → (Dim n) × (n * n * 1 ≤ z) × (n * n * 1 ≤ x)
   asked-inverse s = (s .dim, omega (arith, s .third), omega (arith, s .first))
 
-  pub asked-scale : Shaped Scale n 1 x y z → (Dim x) × (z ≡ x)
+  pub asked-scale : Shaped Scale n 1 x y z → (Dim x) × (x * 1 ≤ z) × (x * 1 ≤ x)
   asked-scale s =
       let e : x ≡ n = plain x n (s .first) in
-      (rw e (s .dim), omega (arith, s .third))
+      (rw e (s .dim), omega (arith, s .third), omega arith)
 
   -- of rows and of blocks alike
   pub asked-values : (op : Operation) (m : ℕ) → firstCount op n ≡ m → secondCount op n ≡ m → counted m ≡ true → Shaped op n 1 x y z
-      → (counted x ≡ true) × (y ≡ x) × (z ≡ x)
+      → (counted x ≡ true) × (x * 1 ≤ z) × (x * 1 ≤ x) × (x * 1 ≤ y)
   asked-values op m p q known s =
       let ex : x ≡ m = plain x m (rw p at (s .first)) in
       let ey : y ≡ m = plain y m (rw q at (s .second)) in
       let ez : z ≡ m = plain z m (rw q at (s .third)) in
-      (rw ex known, ey ∙ sym ex, ez ∙ sym ex)
+      (rw ex known, omega arith, omega arith, omega arith)
 
 -- ---- what is left
 
@@ -88,21 +88,40 @@ module _ (f : Format) (n : ℕ) (s : Float) (x y out z : List Float) where
         left = e ∙ product-once f n x y out (plain _ _ (h .first)) (plain _ _ (h .second)) (plain _ _ (h .third));
       }
 
-  pub left-scale : Shaped Scale n 1 (length x) (length y) (length out) → z ≡ scaled f (length x) x s → Completed f Scale n s x y z Done
-  left-scale h e = record { number = refl; row = refl; left = rw (plain _ _ (h .first)) at e }
+  -- one part is all of a slice
+  all-of : (m : ℕ) (op : List Float → List Float → List Float) (u v : List Float) → length x ≡ m → length out ≡ m → length u ≡ m → length v ≡ m
+      → z ≡ eachPart op (length x) u v 1 out → z ≡ op u v
+  all-of m op u v lx lo lu lv e = e ∙ parts-once op (length x) u v out (lu ∙ sym lx) (lv ∙ sym lx) (lo ∙ sym lx)
 
-  pub left-add : Shaped Add n 1 (length x) (length y) (length out) → z ≡ added f (length x) x y → Completed f Add n s x y z Done
-  left-add h e = record { number = refl; row = refl; left = rw (plain _ _ (h .first)) at e }
+  pub left-scale : Shaped Scale n 1 (length x) (length y) (length out) → z ≡ eachPart (λ u _. scaled f (length x) u s) (length x) x x 1 out
+      → Completed f Scale n s x y z Done
+  left-scale h e =
+      let lx : length x ≡ n = plain _ _ (h .first) in
+      record { number = refl; row = refl; left = rw lx at (all-of n (λ u _. scaled f (length x) u s) x x lx (plain _ _ (h .third)) lx lx e) }
 
-  pub left-subtract : Shaped Subtract n 1 (length x) (length y) (length out) → z ≡ subtracted f (length x) x y → Completed f Subtract n s x y z Done
-  left-subtract h e = record { number = refl; row = refl; left = rw (plain _ _ (h .first)) at e }
+  pub left-add : Shaped Add n 1 (length x) (length y) (length out) → z ≡ eachPart (added f (length x)) (length x) x y 1 out
+      → Completed f Add n s x y z Done
+  left-add h e =
+      let lx : length x ≡ n = plain _ _ (h .first) in
+      record { number = refl; row = refl; left = rw lx at (all-of n (added f (length x)) x y lx (plain _ _ (h .third)) lx (plain _ _ (h .second)) e) }
 
-  pub left-add-block : Shaped AddBlock n 1 (length x) (length y) (length out) → z ≡ added f (length x) x y → Completed f AddBlock n s x y z Done
-  left-add-block h e = record { number = refl; row = refl; left = rw (plain _ _ (h .first)) at e }
+  pub left-subtract : Shaped Subtract n 1 (length x) (length y) (length out) → z ≡ eachPart (subtracted f (length x)) (length x) x y 1 out
+      → Completed f Subtract n s x y z Done
+  left-subtract h e =
+      let lx : length x ≡ n = plain _ _ (h .first) in
+      record { number = refl; row = refl; left = rw lx at (all-of n (subtracted f (length x)) x y lx (plain _ _ (h .third)) lx (plain _ _ (h .second)) e) }
 
-  pub left-subtract-block : Shaped SubtractBlock n 1 (length x) (length y) (length out) → z ≡ subtracted f (length x) x y
+  pub left-add-block : Shaped AddBlock n 1 (length x) (length y) (length out) → z ≡ eachPart (added f (length x)) (length x) x y 1 out
+      → Completed f AddBlock n s x y z Done
+  left-add-block h e =
+      let lx : length x ≡ n * n = plain _ _ (h .first) in
+      record { number = refl; row = refl; left = rw lx at (all-of (n * n) (added f (length x)) x y lx (plain _ _ (h .third)) lx (plain _ _ (h .second)) e) }
+
+  pub left-subtract-block : Shaped SubtractBlock n 1 (length x) (length y) (length out) → z ≡ eachPart (subtracted f (length x)) (length x) x y 1 out
       → Completed f SubtractBlock n s x y z Done
-  left-subtract-block h e = record { number = refl; row = refl; left = rw (plain _ _ (h .first)) at e }
+  left-subtract-block h e =
+      let lx : length x ≡ n * n = plain _ _ (h .first) in
+      record { number = refl; row = refl; left = rw lx at (all-of (n * n) (subtracted f (length x)) x y lx (plain _ _ (h .third)) lx (plain _ _ (h .second)) e) }
 
   pub left-inverse : (answer : Answer) → Shaped Inverse n 1 (length x) (length y) (length out) → InvertingLast f n x 1 answer → z ≡ inverseEach f n x 1 out
       → Completed f Inverse n s x y z answer

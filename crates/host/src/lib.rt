@@ -3,12 +3,12 @@
 pub mod timed;
 
 use answers::Answer;
-use lent::unchecked::add;
+use lent::unchecked::add_each;
 use lent::unchecked::apply_each;
 use lent::unchecked::inverse_each;
 use lent::unchecked::product_each;
-use lent::unchecked::scale;
-use lent::unchecked::subtract;
+use lent::unchecked::scale_each;
+use lent::unchecked::subtract_each;
 use wire::unchecked::decode;
 use wire::unchecked::encode;
 ghost use mathlib.Core.Path.{_≡_};
@@ -35,7 +35,7 @@ pub struct Outcome {
 }
 
 // The operations of the entry points that work on bytes, so that all of them share one way from bytes to bytes.
-pub enum Operation {
+enum Operation {
     Apply,
     Product,
     Scale,
@@ -128,11 +128,11 @@ fn operate(op: Operation, dim: usize, s: f64, x: &[f64], y: &[f64], z: &mut [f64
     match op {
         Operation::Apply => apply_each(z, dim, x, y, 1),
         Operation::Product => product_each(z, dim, x, y, 1),
-        Operation::Scale => scale(z, x, s),
-        Operation::Add => add(z, x, y),
-        Operation::Subtract => subtract(z, x, y),
-        Operation::AddBlock => add(z, x, y),
-        Operation::SubtractBlock => subtract(z, x, y),
+        Operation::Scale => scale_each(z, x.len(), x, s, 1),
+        Operation::Add => add_each(z, x.len(), x, y, 1),
+        Operation::Subtract => subtract_each(z, x.len(), x, y, 1),
+        Operation::AddBlock => add_each(z, x.len(), x, y, 1),
+        Operation::SubtractBlock => subtract_each(z, x.len(), x, y, 1),
         Operation::Inverse => return inverse_each(z, dim, x, 1),
     }
     Answer::Done

@@ -42,6 +42,7 @@ fn fitting(p: usize, a: usize, q: usize, b: usize, c: usize) -> usize
     lesser(a / p, lesser(b / q, c / q))
 }
 
+// The products of the blocks of a and b.
 #[no_mangle]
 pub extern "C" fn pierbramble_timed_product(dim: u32, a: &[f64], b: &[f64], out: &mut [f64])
     ensures { λ _. ⌜ now (out .exit) ≡ cond (outsideOf 1 3 dim) (now (out .entry)) (productEach binary64 dim (now (a .entry)) (now (b .entry))
@@ -56,6 +57,7 @@ pub extern "C" fn pierbramble_timed_product(dim: u32, a: &[f64], b: &[f64], out:
     product_each(out, dim as usize, a, b, count);
 }
 
+// The blocks of a times the rows of x.
 #[no_mangle]
 pub extern "C" fn pierbramble_timed_apply(dim: u32, a: &[f64], x: &[f64], out: &mut [f64])
     ensures { λ _. ⌜ now (out .exit) ≡ cond (outsideOf 1 3 dim) (now (out .entry)) (applyEach binary64 dim (now (a .entry)) (now (x .entry))
@@ -70,6 +72,7 @@ pub extern "C" fn pierbramble_timed_apply(dim: u32, a: &[f64], x: &[f64], out: &
     apply_each(out, dim as usize, a, x, count);
 }
 
+// The inverses of the blocks of a. Which of them are singular is not told: a refused block stays as given.
 #[no_mangle]
 pub extern "C" fn pierbramble_timed_inverse(dim: u32, a: &[f64], out: &mut [f64])
     ensures { λ _. ⌜ now (out .exit) ≡ cond (outsideOf 1 3 dim) (now (out .entry)) (inverseEach binary64 dim (now (a .entry))
@@ -84,6 +87,7 @@ pub extern "C" fn pierbramble_timed_inverse(dim: u32, a: &[f64], out: &mut [f64]
     inverse_each(out, dim as usize, a, count);
 }
 
+// The roots of the values of x.
 #[no_mangle]
 pub extern "C" fn pierbramble_timed_square_root(x: &[f64], out: &mut [f64])
     ensures { λ _. ⌜ now (out .exit) ≡ eachTo (rootAt binary64 (now (x .entry))) (lesserOf (length (now (x .entry))) (length (now (out .entry)))) (now (out .entry)) ⌝ }

@@ -1,18 +1,19 @@
 -- One block alone: where each slice is one block or one row, the loops leave the operation's result.
 -- Assumes nothing.
 use mathlib.Core.Path.{_≡_, refl, sym, ap, _∙_, subst}
-use mathlib.Core.List.{List, [], _∷_}
+use mathlib.Core.List.{List, [], _∷_, append-nil}
 use mathlib.Core.Bool.{Bool, true, false, cond}
-use Prim.Native.Nat.{ℕ, zero, suc, _*_}
+use Prim.Native.Nat.{ℕ, zero, suc, _*_, _≤_}
 use native.Mathlib.Omega.{arith}
-use lib.ListN.{length, length-append}
+use lib.ListN.{length, length-append, drop-of-length-le}
+use lib.Seq.{take-all}
 use lib.Ieee.{Float, Format}
 use Rattle.base.specs.Iterate.{steps, iterate}
 use Rattle.answers.specs.declared.Answer.{Answer}
 use Rattle.blocks.specs.Block.{listed, product, applied}
 use Rattle.blocks.specs.Inverse.{inverse, singular}
 use Rattle.blocks.specs.Lent.{valuesAt, blockAt, vectorAt, putAt}
-use Rattle.lent.specs.Steps.{Dim, productAt, applyAt, inverseAt, inverseOr, productEach, applyEach, inverseEach, Inverting, InvertingLast}
+use Rattle.lent.specs.Steps.{Dim, productAt, applyAt, inverseAt, inverseOr, productEach, applyEach, inverseEach, Inverting, InvertingLast, partAt, eachPart}
 use Rattle.lent.proofs.Whole.{whole-values, put-whole}
 
 pub length-listed : (m : ℕ) (g : ℕ → Float) → length (listed m g) ≡ m
@@ -69,3 +70,12 @@ module _ (f : Format) (n : ℕ) (d : Dim n) (a : List Float) (la : length a ≡ 
   -- and what the loop answers is what the one block's inverse does
   pub answer-once : (answer : Answer) → InvertingLast f n a 1 answer → Inverting f n a answer
   answer-once answer given = subst (λ (l : List Float). Inverting f n l answer) (part-whole (n * n) a la) given
+
+-- parts of any number of values alike
+pub parts-once : (op : List Float → List Float → List Float) (m : ℕ) (u v out : List Float) → length u ≡ m → length v ≡ m → length out ≡ m
+    → eachPart op m u v 1 out ≡ op u v
+unfolding eachPart iterate steps partAt
+parts-once op m u v out lu lv lo =
+    let e : m * 0 ≡ 0 = omega arith in
+    let past : length out ≤ m = omega arith in
+    rw (e, take-all m u (omega arith), take-all m v (omega arith), drop-of-length-le out past, append-nil)

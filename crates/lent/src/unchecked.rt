@@ -1,4 +1,4 @@
-// One operation for each call of `blocks`, on the blocks and rows of lent slices, for N = 1, 2, 3 by its first number.
+// The calls of `blocks` on the blocks and rows of lent slices, with N as the number `dim` or as a length.
 // These functions ask that the blocks are there, so that no user calls them.
 use answers::Answer;
 use blocks::unchecked::block_1;
@@ -125,7 +125,7 @@ pub fn inverse_each(out: &mut [f64], dim: usize, a: &[f64], count: usize) -> Ans
 }
 
 // The sum of two rows or of two blocks, value by value.
-pub fn add(out: &mut [f64], u: &[f64], v: &[f64])
+fn add(out: &mut [f64], u: &[f64], v: &[f64])
     requires { ⌜ (counted (length (now u)) ≡ true) × (length (now v) ≡ length (now u)) × (length (now out) ≡ length (now u)) ⌝ }
     ensures { λ _. ⌜ now (out .exit) ≡ added binary64 (length (now (u .entry))) (now (u .entry)) (now (v .entry)) ⌝ }
 {
@@ -139,7 +139,7 @@ pub fn add(out: &mut [f64], u: &[f64], v: &[f64])
 }
 
 // The difference likewise.
-pub fn subtract(out: &mut [f64], u: &[f64], v: &[f64])
+fn subtract(out: &mut [f64], u: &[f64], v: &[f64])
     requires { ⌜ (counted (length (now u)) ≡ true) × (length (now v) ≡ length (now u)) × (length (now out) ≡ length (now u)) ⌝ }
     ensures { λ _. ⌜ now (out .exit) ≡ subtracted binary64 (length (now (u .entry))) (now (u .entry)) (now (v .entry)) ⌝ }
 {
@@ -161,7 +161,7 @@ pub fn subtract(out: &mut [f64], u: &[f64], v: &[f64])
 }
 
 // A row, scaled by s.
-pub fn scale(out: &mut [f64], v: &[f64], s: f64)
+fn scale(out: &mut [f64], v: &[f64], s: f64)
     requires { ⌜ (Dim (length (now v))) × (length (now out) ≡ length (now v)) ⌝ }
     ensures { λ _. ⌜ now (out .exit) ≡ scaled binary64 (length (now (v .entry))) (now (v .entry)) s ⌝ }
 {
