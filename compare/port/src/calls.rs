@@ -29,6 +29,10 @@ macro_rules! wrap {
 }
 
 wrap! {
+    /// The nearest number to the exact root.
+    square_root => pierbramble_square_root(take x: f64) -> f64
+}
+wrap! {
     /// The checks of a call that is given n and one vector of `dim` values a row.
     check_vector => pierbramble_check_vector(take n: u32, take dim: u32, take length: usize) -> Outcome
 }
@@ -63,10 +67,6 @@ wrap! {
 wrap! {
     /// A block's inverse, or 9 and the block as given.
     inverse => pierbramble_inverse(take dim: u32, read a: u8, write out: u8) -> Outcome
-}
-wrap! {
-    /// The nearest number to the exact root.
-    square_root => pierbramble_square_root(take x: f64) -> f64
 }
 wrap! {
     /// Products of as many blocks as are lent, for measuring.

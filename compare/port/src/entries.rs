@@ -11,6 +11,7 @@ pub struct Outcome {
 
 #[rustfmt::skip]
 extern "C" {
+    pub(crate) fn pierbramble_square_root(x: f64) -> f64;
     pub(crate) fn pierbramble_check_vector(n: u32, dim: u32, length: usize) -> Outcome;
     pub(crate) fn pierbramble_apply(dim: u32, a: *const u8, a_count: usize, x: *const u8, x_count: usize, out: *mut u8, out_count: usize) -> Outcome;
     pub(crate) fn pierbramble_product(dim: u32, a: *const u8, a_count: usize, b: *const u8, b_count: usize, out: *mut u8, out_count: usize) -> Outcome;
@@ -20,7 +21,6 @@ extern "C" {
     pub(crate) fn pierbramble_add_block(dim: u32, u: *const u8, u_count: usize, v: *const u8, v_count: usize, out: *mut u8, out_count: usize) -> Outcome;
     pub(crate) fn pierbramble_subtract_block(dim: u32, u: *const u8, u_count: usize, v: *const u8, v_count: usize, out: *mut u8, out_count: usize) -> Outcome;
     pub(crate) fn pierbramble_inverse(dim: u32, a: *const u8, a_count: usize, out: *mut u8, out_count: usize) -> Outcome;
-    pub(crate) fn pierbramble_square_root(x: f64) -> f64;
     pub(crate) fn pierbramble_timed_product(dim: u32, a: *const f64, a_count: usize, b: *const f64, b_count: usize, out: *mut f64, out_count: usize);
     pub(crate) fn pierbramble_timed_apply(dim: u32, a: *const f64, a_count: usize, x: *const f64, x_count: usize, out: *mut f64, out_count: usize);
     pub(crate) fn pierbramble_timed_inverse(dim: u32, a: *const f64, a_count: usize, out: *mut f64, out_count: usize);
