@@ -2,3 +2,4 @@
 -- Assumes nothing.
 pub mod SameAnswer
 pub mod CheckOrder
+pub mod EndLaws

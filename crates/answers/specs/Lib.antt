@@ -3,3 +3,4 @@
 pub mod Numbers
 pub mod Checks
 pub mod Limits
+pub mod Promise
