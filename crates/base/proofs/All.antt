@@ -2,7 +2,7 @@
 -- Assumes nothing.
 use mathlib.Core.Path.{_≡_, refl, sym, ap, _∙_}
 use mathlib.Core.Logic.{⊎-elim}
-use mathlib.Core.Bool.{Bool, true, false, _&&_}
+use mathlib.Core.Bool.{Bool, true, false, _&&_, _||_}
 use Prim.Native.Nat.{ℕ, zero, suc, _+_, _≤_, _<_}
 use native.Mathlib.Nat.{not-suc-le-zero, le-of-suc-le-suc, eq-or-lt-of-le}
 use native.Mathlib.Numerals.{add-one}
@@ -28,6 +28,16 @@ false-left b p = rw p
 pub false-right : (a : Bool) {b : Bool} → b ≡ false → (a && b) ≡ false
 false-right true p = p
 false-right false p = refl
+
+-- neither, of a test for either
+pub or-left : (a b : Bool) → (a || b) ≡ false → a ≡ false
+or-left true b h = h
+or-left false b h = refl
+
+pub or-right : (a b : Bool) → (a || b) ≡ false → b ≡ false
+or-right true true h = h
+or-right true false h = refl
+or-right false b h = h
 
 module _ (p : ℕ → Bool) where
   pub all-none : allTo p 0 ≡ true

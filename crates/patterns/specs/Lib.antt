@@ -2,3 +2,5 @@
 -- Definitions only.
 pub mod Pattern
 pub mod Checks
+pub mod Steps
+pub mod Marks

@@ -4,6 +4,7 @@
 use std::env;
 use std::fs;
 use std::hint::black_box;
+use std::ops::Range;
 use std::time::{Duration, Instant, SystemTime, UNIX_EPOCH};
 
 use comparison::groups::timed::{Timed, TIMED};
@@ -26,13 +27,20 @@ const RUN_TIME: Duration = Duration::from_micros(100);
 
 const SEED: u64 = 1;
 
+/// Values in front of an output in the first round, and as many more in each round after it. Where buffers lie
+/// to each other within a page can double the time of a short loop, on either side, as its loads and stores
+/// happen to meet; so each round has another place, and the median is over all of them.
+const APART: usize = 72;
+
 /// One call at one N and one size, with its buffers and the seconds of its runs.
 struct Row {
     timed: &'static Timed,
     dim: usize,
     size: usize,
     inputs: Vec<Vec<f64>>,
+    /// The output, and room in front of it.
     out: Vec<f64>,
+    apart: usize,
     repeats: usize,
     port: Vec<f64>,
     rust: Vec<f64>,
@@ -41,15 +49,22 @@ struct Row {
 type Side = fn(usize, &[Vec<f64>], &mut [f64]);
 
 impl Row {
-    fn new(timed: &'static Timed, dim: usize, size: usize, random: &mut Random) -> Row {
+    fn new(
+        timed: &'static Timed,
+        dim: usize,
+        size: usize,
+        rounds: usize,
+        random: &mut Random,
+    ) -> Row {
         let inputs = (timed.inputs)(dim, size, random);
-        let out = vec![0.0; size * (timed.output)(dim)];
+        let out = vec![0.0; APART * rounds + size * (timed.output)(dim)];
         let mut row = Row {
             timed,
             dim,
             size,
             inputs,
             out,
+            apart: APART,
             repeats: 1,
             port: Vec::new(),
             rust: Vec::new(),
@@ -59,12 +74,18 @@ impl Row {
         row
     }
 
+    /// Where the output lies in this round.
+    fn place(&self) -> Range<usize> {
+        self.apart..self.apart + self.size * (self.timed.output)(self.dim)
+    }
+
     /// Both sides have to do the same work: they give the same words.
     fn check(&mut self) {
-        (self.timed.rust)(self.dim, &self.inputs, &mut self.out);
+        let at = self.place();
+        (self.timed.rust)(self.dim, &self.inputs, &mut self.out[at.clone()]);
         let expected = words::words_of(&self.out);
         self.out.fill(0.0);
-        (self.timed.port)(self.dim, &self.inputs, &mut self.out);
+        (self.timed.port)(self.dim, &self.inputs, &mut self.out[at.clone()]);
         let name = self.timed.name;
         assert!(
             words::words_of(&self.out) == expected,
@@ -87,14 +108,20 @@ impl Row {
     fn run(&mut self, side: Side) -> f64 {
         let start = Instant::now();
         for _ in 0..self.repeats {
-            side(self.dim, black_box(&self.inputs), black_box(&mut self.out));
+            let at = self.place();
+            side(
+                self.dim,
+                black_box(&self.inputs),
+                black_box(&mut self.out[at]),
+            );
             black_box(&mut self.out);
         }
         start.elapsed().as_secs_f64() / self.repeats as f64
     }
 
     /// One round: a run of each side for warmth, then runs that take turns, and turns at being first.
-    fn round(&mut self) {
+    fn round(&mut self, round: usize) {
+        self.apart = APART * round;
         self.run(self.timed.port);
         self.run(self.timed.rust);
         for turn in 0..RUNS {
@@ -148,7 +175,7 @@ fn main() {
     for timed in TIMED {
         for &dim in timed.dims {
             for size in SIZES {
-                rows.push(Row::new(timed, dim, size, random));
+                rows.push(Row::new(timed, dim, size, rounds, random));
             }
         }
     }
@@ -158,7 +185,7 @@ fn main() {
                 "\rround {round} of {rounds}: {}, N = {}, {} {}      ",
                 row.timed.name, row.dim, row.size, row.timed.unit
             );
-            row.round();
+            row.round(round);
         }
     }
     eprintln!();

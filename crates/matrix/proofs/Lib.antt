@@ -1,0 +1,8 @@
+-- What is proved about the matrix calls, besides each function's promise.
+-- Assumes nothing.
+pub mod ProductLaws
+pub mod CheckLaws
+pub mod FitLaws
+pub mod PatternEnds
+pub mod CheckOrder
+pub mod Examples

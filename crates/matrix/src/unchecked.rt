@@ -1,0 +1,292 @@
+// The matrix operations without checks, with N as the number `dim`: one loop for each, and the work on a row for each N.
+// These functions ask that the pattern is valid and that the lengths fit it, so that no user calls them.
+use answers::Answer;
+use answers::Refusal;
+use blocks::add_1;
+use blocks::add_2;
+use blocks::add_3;
+use blocks::apply_1;
+use blocks::apply_2;
+use blocks::apply_3;
+use blocks::scale_1;
+use blocks::scale_2;
+use blocks::scale_3;
+use blocks::unchecked::block_1;
+use blocks::unchecked::block_2;
+use blocks::unchecked::block_3;
+use blocks::unchecked::put;
+use blocks::unchecked::vector_1;
+use blocks::unchecked::vector_2;
+use blocks::unchecked::vector_3;
+use patterns::is_too_large;
+use vectors::unchecked::scale;
+ghost use mathlib.Core.Path.{_≡_};
+ghost use Prim.Native.Nat.{_+_, _*_, _≤_};
+ghost use lib.ListN.{length};
+ghost use lib.Ieee.{binary64};
+ghost use Rattle.lent.specs.Steps.{Dim};
+ghost use Rattle.answers.specs.Checks.{firstOf};
+ghost use Rattle.answers.specs.Numbers.{numberOf};
+ghost use Rattle.patterns.specs.Pattern.{rowsOf};
+ghost use Rattle.matrix.specs.Checks.{matrixLengths, vectorLengths};
+ghost use Rattle.matrix.specs.Product.{addProduct, addEntries, addRowAt, multVec};
+ghost use Rattle.matrix.specs.Fits.{RowFits, TurnFits, MatrixFits};
+
+// A row's value t, to which alpha times block e of the values times row j of x is added.
+fn add_product_1(t: [f64; 1], alpha: f64, values: &[f64], e: usize, x: &[f64], j: usize) -> [f64; 1]
+    requires { ⌜ (1 * e + 1 ≤ length (now values)) × (1 * j + 1 ≤ length (now x)) ⌝ }
+    ensures { λ r. ⌜ r ≡ addProduct binary64 1 alpha (now (values .entry)) e (now (x .entry)) j t ⌝ }
+{
+    add_1(
+        t,
+        scale_1(apply_1(block_1(values, e), vector_1(x, j)), alpha),
+    )
+}
+
+fn add_product_2(t: [f64; 2], alpha: f64, values: &[f64], e: usize, x: &[f64], j: usize) -> [f64; 2]
+    requires { ⌜ (4 * e + 4 ≤ length (now values)) × (2 * j + 2 ≤ length (now x)) ⌝ }
+    ensures { λ r. ⌜ r ≡ addProduct binary64 2 alpha (now (values .entry)) e (now (x .entry)) j t ⌝ }
+{
+    add_2(
+        t,
+        scale_2(apply_2(block_2(values, e), vector_2(x, j)), alpha),
+    )
+}
+
+fn add_product_3(t: [f64; 3], alpha: f64, values: &[f64], e: usize, x: &[f64], j: usize) -> [f64; 3]
+    requires { ⌜ (9 * e + 9 ≤ length (now values)) × (3 * j + 3 ≤ length (now x)) ⌝ }
+    ensures { λ r. ⌜ r ≡ addProduct binary64 3 alpha (now (values .entry)) e (now (x .entry)) j t ⌝ }
+{
+    add_3(
+        t,
+        scale_3(apply_3(block_3(values, e), vector_3(x, j)), alpha),
+    )
+}
+
+// A row's value t, to which its entries are added in stored order.
+fn add_entries_1(
+    t: [f64; 1],
+    alpha: f64,
+    row: &[u32],
+    first: usize,
+    values: &[f64],
+    x: &[f64],
+) -> [f64; 1]
+    requires { ⌜ RowFits 1 (now row) first (length (now values)) (length (now x)) ⌝ }
+    ensures { λ r. ⌜ r ≡ addEntries binary64 1 alpha (now (row .entry)) first (now (values .entry)) (now (x .entry)) t ⌝ }
+{
+    let mut sum = t;
+    let mut k = 0;
+    while k < row.len() {
+        let next = add_product_1(sum, alpha, values, first + k, x, row[k] as usize);
+        sum = next;
+        k += 1;
+    }
+    sum
+}
+
+fn add_entries_2(
+    t: [f64; 2],
+    alpha: f64,
+    row: &[u32],
+    first: usize,
+    values: &[f64],
+    x: &[f64],
+) -> [f64; 2]
+    requires { ⌜ RowFits 2 (now row) first (length (now values)) (length (now x)) ⌝ }
+    ensures { λ r. ⌜ r ≡ addEntries binary64 2 alpha (now (row .entry)) first (now (values .entry)) (now (x .entry)) t ⌝ }
+{
+    let mut sum = t;
+    let mut k = 0;
+    while k < row.len() {
+        let next = add_product_2(sum, alpha, values, first + k, x, row[k] as usize);
+        sum = next;
+        k += 1;
+    }
+    sum
+}
+
+fn add_entries_3(
+    t: [f64; 3],
+    alpha: f64,
+    row: &[u32],
+    first: usize,
+    values: &[f64],
+    x: &[f64],
+) -> [f64; 3]
+    requires { ⌜ RowFits 3 (now row) first (length (now values)) (length (now x)) ⌝ }
+    ensures { λ r. ⌜ r ≡ addEntries binary64 3 alpha (now (row .entry)) first (now (values .entry)) (now (x .entry)) t ⌝ }
+{
+    let mut sum = t;
+    let mut k = 0;
+    while k < row.len() {
+        let next = add_product_3(sum, alpha, values, first + k, x, row[k] as usize);
+        sum = next;
+        k += 1;
+    }
+    sum
+}
+
+// Row i of y, to which the row's entries and then its diagonal are added.
+fn mult_row_1(
+    y: &mut [f64],
+    i: usize,
+    alpha: f64,
+    row: &[u32],
+    first: usize,
+    values: &[f64],
+    diagonal: &[f64],
+    x: &[f64],
+)
+    requires { ⌜ TurnFits 1 i (now row) first (length (now values)) (length (now diagonal)) (length (now x)) (length (now y)) ⌝ }
+    ensures { λ _. ⌜ now (y .exit) ≡ addRowAt binary64 1 alpha (now (row .entry)) first (now (values .entry)) (now (diagonal .entry)) (now (x .entry)) i (now (y .entry)) ⌝ }
+{
+    let entries = add_entries_1(vector_1(y, i), alpha, row, first, values, x);
+    let all = add_product_1(entries, alpha, diagonal, i, x, i);
+    put(y, 1 * i, &all);
+}
+
+fn mult_row_2(
+    y: &mut [f64],
+    i: usize,
+    alpha: f64,
+    row: &[u32],
+    first: usize,
+    values: &[f64],
+    diagonal: &[f64],
+    x: &[f64],
+)
+    requires { ⌜ TurnFits 2 i (now row) first (length (now values)) (length (now diagonal)) (length (now x)) (length (now y)) ⌝ }
+    ensures { λ _. ⌜ now (y .exit) ≡ addRowAt binary64 2 alpha (now (row .entry)) first (now (values .entry)) (now (diagonal .entry)) (now (x .entry)) i (now (y .entry)) ⌝ }
+{
+    let entries = add_entries_2(vector_2(y, i), alpha, row, first, values, x);
+    let all = add_product_2(entries, alpha, diagonal, i, x, i);
+    put(y, 2 * i, &all);
+}
+
+fn mult_row_3(
+    y: &mut [f64],
+    i: usize,
+    alpha: f64,
+    row: &[u32],
+    first: usize,
+    values: &[f64],
+    diagonal: &[f64],
+    x: &[f64],
+)
+    requires { ⌜ TurnFits 3 i (now row) first (length (now values)) (length (now diagonal)) (length (now x)) (length (now y)) ⌝ }
+    ensures { λ _. ⌜ now (y .exit) ≡ addRowAt binary64 3 alpha (now (row .entry)) first (now (values .entry)) (now (diagonal .entry)) (now (x .entry)) i (now (y .entry)) ⌝ }
+{
+    let entries = add_entries_3(vector_3(y, i), alpha, row, first, values, x);
+    let all = add_product_3(entries, alpha, diagonal, i, x, i);
+    put(y, 3 * i, &all);
+}
+
+// The same with N as a number: it is chosen once a row, since a choice at each block is slower.
+fn mult_row(
+    y: &mut [f64],
+    i: usize,
+    dim: usize,
+    alpha: f64,
+    row: &[u32],
+    first: usize,
+    values: &[f64],
+    diagonal: &[f64],
+    x: &[f64],
+)
+    requires { ⌜ (Dim dim) × (TurnFits dim i (now row) first (length (now values)) (length (now diagonal)) (length (now x)) (length (now y))) ⌝ }
+    ensures { λ _. ⌜ now (y .exit) ≡ addRowAt binary64 dim alpha (now (row .entry)) first (now (values .entry)) (now (diagonal .entry)) (now (x .entry)) i (now (y .entry)) ⌝ }
+{
+    match dim {
+        1 => mult_row_1(y, i, alpha, row, first, values, diagonal, x),
+        2 => mult_row_2(y, i, alpha, row, first, values, diagonal, x),
+        _ => mult_row_3(y, i, alpha, row, first, values, diagonal, x),
+    }
+}
+
+// y scaled by beta, then alpha times the matrix times x added, row by row.
+pub fn mult_vec(
+    y: &mut [f64],
+    dim: usize,
+    beta: f64,
+    alpha: f64,
+    offsets: &[u32],
+    columns: &[u32],
+    values: &[f64],
+    diagonal: &[f64],
+    x: &[f64],
+)
+    requires { ⌜ (MatrixFits dim (now offsets) (now columns) (length (now values)) (length (now diagonal))) × (length (now x) ≡ dim * rowsOf (now offsets)) × (length (now y) ≡ dim * rowsOf (now offsets)) ⌝ }
+    ensures { λ _. ⌜ now (y .exit) ≡ multVec binary64 dim (now (offsets .entry)) (now (columns .entry)) (now (values .entry)) (now (diagonal .entry)) beta alpha (now (x .entry)) (now (y .entry)) ⌝ }
+{
+    scale(y, beta);
+    let n = offsets.len() - 1;
+    let mut i = 0;
+    while i < n {
+        let from = offsets[i] as usize;
+        let to = offsets[i + 1] as usize;
+        mult_row(
+            y,
+            i,
+            dim,
+            alpha,
+            &columns[from..to],
+            from,
+            values,
+            diagonal,
+            x,
+        );
+        i += 1;
+    }
+}
+
+// The checks of a matrix by its lengths: 1, then 2.
+pub fn check_matrix(
+    dim: usize,
+    offsets: usize,
+    columns: usize,
+    values: usize,
+    diagonal: usize,
+) -> Answer
+    requires { ⌜ Dim dim ⌝ }
+    ensures { λ r. ⌜ numberOf r ≡ firstOf (matrixLengths dim offsets columns values diagonal) ⌝ }
+{
+    if is_too_large(offsets, columns) {
+        return Answer::Refused(Refusal::Size);
+    }
+    let size = dim * dim;
+    if values != size * columns {
+        return Answer::Refused(Refusal::Shape);
+    }
+    if diagonal != size * (offsets - 1) {
+        return Answer::Refused(Refusal::Shape);
+    }
+    Answer::Done
+}
+
+// The same of a matrix and two slices that have `dim` words to a row.
+pub fn check_vectors(
+    dim: usize,
+    offsets: usize,
+    columns: usize,
+    values: usize,
+    diagonal: usize,
+    first: usize,
+    second: usize,
+) -> Answer
+    requires { ⌜ Dim dim ⌝ }
+    ensures { λ r. ⌜ numberOf r ≡ firstOf (vectorLengths dim offsets columns values diagonal first second) ⌝ }
+{
+    let answer = check_matrix(dim, offsets, columns, values, diagonal);
+    if answer.number() != 0 {
+        return answer;
+    }
+    let all = dim * (offsets - 1);
+    if first != all {
+        return Answer::Refused(Refusal::Shape);
+    }
+    if second != all {
+        return Answer::Refused(Refusal::Shape);
+    }
+    answer
+}

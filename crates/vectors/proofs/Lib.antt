@@ -1,0 +1,8 @@
+-- What is proved about vectors, besides each function's promise.
+-- Assumes nothing.
+pub mod FlagLaws
+pub mod CheckLaws
+pub mod EndedLaws
+pub mod DotLaws
+pub mod VectorLaws
+pub mod Examples
