@@ -4,7 +4,6 @@ use mathlib.Core.Path.{_≡_, refl}
 use mathlib.Core.List.{List, [], _∷_}
 use mathlib.Core.Bool.{true, false}
 use Prim.Native.Nat.{ℕ}
-use lib.ListN.{replicate}
 use Rattle.answers.specs.Checks.{firstOf}
 use Rattle.base.specs.All.{allTo}
 use Rattle.base.specs.First.{firstIn}

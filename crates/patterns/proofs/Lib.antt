@@ -7,6 +7,9 @@ pub mod MarkLaws
 pub mod OnceLaws
 pub mod RowLaws
 pub mod SplitLaws
+pub mod RiseLaws
+pub mod ClimbLaws
+pub mod FastLaws
 pub mod FactorLaws
 pub mod CheckOrder
 pub mod Examples

@@ -2,24 +2,21 @@
 -- Assumes nothing.
 use mathlib.Core.Path.{_≡_, refl, sym, ap, _∙_}
 use mathlib.Core.List.{List, [], _∷_}
-use mathlib.Core.Bool.{Bool, true, false, not, _&&_}
-use Prim.Native.Nat.{ℕ, zero, suc, _+_, _-_, _≤_, _<_}
+use mathlib.Core.Bool.{Bool, true, false}
+use Prim.Native.Nat.{ℕ, zero, suc, _+_, _-_, _<_}
 use native.Mathlib.Numerals.{add-one}
 use native.Mathlib.Omega.{arith}
-use native.Mathlib.Decide.{ℕ-discrete}
-use lib.ListN.{length, getD, set, drop, replicate, length-set, length-replicate}
+use lib.ListN.{length, getD, set, replicate, length-set, length-replicate}
 use lib.Seq.{drop-cons, drop-length}
-use lib.Dec.{eqb}
-use borrow.Author.Tests.{ltb-true, eq-eqb, ne-eqb}
-use Rattle.base.specs.All.{allTo}
-use Rattle.base.proofs.All.{all-more, all-stop, all-at, false-right}
-use Rattle.patterns.specs.Pattern.{allBelow, absentTo, once}
+use borrow.Author.Tests.{ltb-true}
+use Rattle.base.proofs.All.{all-at}
+use Rattle.patterns.specs.Pattern.{allBelow}
 use Rattle.patterns.specs.Marks.{isFresh, allFresh, AtMost, Below, Marking}
 use Rattle.patterns.specs.Steps.{rowRight}
 use Rattle.patterns.proofs.TestLaws.{and-true}
 use Rattle.patterns.proofs.OnceLaws.{fresh-once, fresh-after}
 
--- a stamp that is written is none above the stamp
+-- writing the stamp makes no mark rise above it
 set-at-most : (stamp : ℕ) (marks : List ℕ) (c : ℕ) → AtMost stamp marks → AtMost stamp (set marks c stamp)
 set-at-most stamp [] c most v = most v
 set-at-most stamp (m ∷ marks) zero most zero = omega arith
@@ -77,7 +74,7 @@ zeros (suc n) (suc v) = zeros n v
 pub marks-new : Below 1 (replicate 4096 0)
 marks-new = record { long = length-replicate {A = ℕ} 4096 0; low = λ v. omega (arith, zeros 4096 v) }
 
--- What is_right_row's marking finds: its own column, if that is refused, is marked first.
+-- what a row's marking finds: its own column, if that is refused, is marked first
 module _ (stamp own : ℕ) (row marks between new : List ℕ) (found : Bool) (start : Below stamp marks) (below : allBelow 4096 row ≡ true) (small : own < 4096)
     (m : Marking stamp row 0 (length row) found between new) where
   inside : (k : ℕ) → k < length row → getD row k 0 < length marks

@@ -1,8 +1,8 @@
 -- The rules of offsets: which of them decides, and where a row then begins and ends.
 -- Assumes nothing.
-use mathlib.Core.Path.{_≡_, refl, sym, ap, _∙_}
+use mathlib.Core.Path.{_≡_, refl}
 use mathlib.Core.List.{List, [], _∷_}
-use mathlib.Core.Bool.{Bool, true, false, _&&_}
+use mathlib.Core.Bool.{true, false, _&&_}
 use Prim.Native.Nat.{ℕ, zero, suc, _+_, _-_, _≤_, _<_}
 use native.Mathlib.Nat.{not-suc-le-zero}
 use native.Mathlib.Omega.{arith}
@@ -16,6 +16,10 @@ use Rattle.patterns.specs.Pattern.{rowsOf, firstIsZero, neverFall, lastI
 first-same : (o : List ℕ) → 1 ≤ length o → getD o 0 1 ≡ getD o 0 0
 first-same [] some = absurd (not-suc-le-zero some)
 first-same (x ∷ o) some = refl
+
+zero-of : (o : List ℕ) → getD o 0 1 ≡ 0 → getD o 0 0 ≡ 0
+zero-of [] is = refl
+zero-of (x ∷ o) is = is
 
 module _ (o cs : List ℕ) where
   pub wrong-first : 1 ≤ length o → (getD o 0 0 ≡ 0 → ⊥) → validOffsets o cs ≡ false
@@ -37,6 +41,10 @@ module _ (o cs : List ℕ) where
     rest : (neverFall o && lastIsCount o cs) ≡ true
     unfolding validOffsets
     rest = and-right (firstIsZero o) (neverFall o && lastIsCount o cs) valid
+
+    pub offsets-first : getD o 0 0 ≡ 0
+    unfolding validOffsets firstIsZero
+    offsets-first = zero-of o (eqb-true (getD o 0 1) 0 (and-left (firstIsZero o) (neverFall o && lastIsCount o cs) valid))
 
     pub offsets-last : getD o (rowsOf o) 0 ≡ length cs
     unfolding lastIsCount

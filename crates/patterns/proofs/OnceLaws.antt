@@ -1,21 +1,21 @@
 -- What marking a row finds: whether its columns differ, from each other and from those that were marked before.
 -- Assumes nothing.
 use mathlib.Core.Path.{_≡_, refl, sym, ap, _∙_}
-use mathlib.Core.List.{List, [], _∷_}
+use mathlib.Core.List.{List, _∷_}
 use mathlib.Core.Bool.{Bool, true, false, not, _&&_}
 use Prim.Native.Nat.{ℕ, zero, suc, _+_, _-_, _≤_, _<_}
 use native.Mathlib.Nat.{not-suc-le-zero}
 use native.Mathlib.Numerals.{add-one}
 use native.Mathlib.Omega.{arith}
 use native.Mathlib.Decide.{ℕ-discrete}
-use lib.ListN.{length, getD, set, drop, replicate, length-set, drop-of-length-le}
+use lib.ListN.{length, getD, set, drop, length-set, drop-of-length-le}
 use lib.Seq.{drop-cons, getD-set-same, getD-set-other}
 use lib.Dec.{eqb}
 use borrow.Author.Tests.{eq-eqb, ne-eqb}
 use Rattle.base.specs.All.{allTo}
 use Rattle.base.proofs.All.{all-more, all-stop, false-right}
 use Rattle.patterns.specs.Pattern.{absentTo, once, ownAbsent}
-use Rattle.patterns.specs.Marks.{isFresh, allFresh, AtMost}
+use Rattle.patterns.specs.Marks.{isFresh, allFresh}
 use Rattle.patterns.proofs.TestLaws.{and-true, all-both, all-same, all-shift}
 
 -- exactly the first m of a list have the stamp

@@ -10,9 +10,9 @@ use lib.Seq.{getD-take, getD-drop}
 use lib.Dec.{ltb}
 use borrow.Author.Tests.{ltb-true, lt-ltb}
 use Rattle.base.specs.All.{allTo}
-use Rattle.base.proofs.All.{all-none, all-more, all-stop, all-at, all-of, false-right}
+use Rattle.base.proofs.All.{all-more, all-stop, all-at, all-of, false-right}
 use Rattle.patterns.specs.Pattern.{rowsOf, rowOf, allBelow, once, allOnce, ownAbsent, allOwnAbsent, validOffsets, validEntries, validPattern}
-use Rattle.patterns.specs.Steps.{rowRight, rowsRight, validAs, Ready}
+use Rattle.patterns.specs.Steps.{rowRight, rowsRight, validAs, Ordered}
 use Rattle.patterns.proofs.TestLaws.{all-both, all-same, all-less}
 use Rattle.patterns.proofs.OffsetLaws.{offsets-step, offset-within}
 use Rattle.patterns.proofs.OnceLaws.{once-after}
@@ -36,25 +36,23 @@ part-below n most cs below more m first = all-of (λ e. ltb (getD (take m (drop 
         lt-ltb (getD (take m (drop first cs)) k 0) most (omega arith)
 
 -- a row's ends are in order, and within the columns
-module _ {o cs : List ℕ} (ready : Ready o cs) (i : ℕ) (inside : i < rowsOf o) where
-  pub ready-step : getD o i 0 ≤ getD o (i + 1) 0
-  ready-step = offsets-step o cs (ready .ordered) i inside
+module _ {o cs : List ℕ} (ordered : Ordered o cs) (i : ℕ) (inside : i < rowsOf o) where
+  pub row-in-order : getD o i 0 ≤ getD o (i + 1) 0
+  row-in-order = offsets-step o cs (ordered .valid) i inside
 
-  pub ready-within : getD o (i + 1) 0 ≤ length cs
-  ready-within = offset-within o cs (ready .ordered) (i + 1) (omega arith)
+  pub row-within : getD o (i + 1) 0 ≤ length cs
+  row-within = offset-within o cs (ordered .valid) (i + 1) (omega arith)
 
--- the rows up to the first that is not right
-module _ (refused : Bool) (o cs : List ℕ) (i first end : ℕ) (found : Bool) (p : first ≡ getD o i 0) (q : end ≡ getD o (i + 1) 0)
-    (is : found ≡ rowRight refused i (take (end - first) (drop first cs))) where
-  here : found ≡ rowRight refused i (rowOf o cs i)
-  here = is ∙ ap (rowRight refused i) (row-is o cs i first end p q)
+-- the rows up to the first that a test refuses, where the test is made of the part that is lent
+module _ (test : ℕ → List ℕ → Bool) (o cs : List ℕ) (i first end : ℕ) (found : Bool) (p : first ≡ getD o i 0) (q : end ≡ getD o (i + 1) 0)
+    (is : found ≡ test i (take (end - first) (drop first cs))) where
+  here : found ≡ test i (rowOf o cs i)
+  here = is ∙ ap (test i) (row-is o cs i first end p q)
 
-  pub rows-more : rowsRight refused o cs i ≡ true → found ≡ true → rowsRight refused o cs (i + 1) ≡ true
-  unfolding rowsRight
+  pub rows-more : allTo (λ j. test j (rowOf o cs j)) i ≡ true → found ≡ true → allTo (λ j. test j (rowOf o cs j)) (i + 1) ≡ true
   rows-more right f = all-more _ i right (sym here ∙ f)
 
-  pub rows-stop : (n : ℕ) → i < n → found ≡ false → rowsRight refused o cs n ≡ false
-  unfolding rowsRight
+  pub rows-stop : (n : ℕ) → i < n → found ≡ false → allTo (λ j. test j (rowOf o cs j)) n ≡ false
   rows-stop n below f = all-stop _ i n below (sym here ∙ f)
 
 -- what is wrong with the first rows is wrong with all

@@ -12,7 +12,7 @@ pub and-true : (b : Bool) → (b && true) ≡ b
 and-true true = refl
 and-true false = refl
 
-assoc : (a b c : Bool) → ((a && b) && c) ≡ (a && (b && c))
+pub assoc : (a b c : Bool) → ((a && b) && c) ≡ (a && (b && c))
 assoc true b c = refl
 assoc false b c = refl
 

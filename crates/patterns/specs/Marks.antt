@@ -11,7 +11,7 @@ use lib.ListN.{length, getD, set, drop}
 abbrev pub isFresh : ℕ → ℕ → List ℕ → Bool
 isFresh stamp column marks = not (eqb (getD marks column 0) stamp)
 
--- each column of a list has it not, when those before it have it
+-- no column of a list has it when its turn comes, and then it is marked
 unfoldable pub allFresh : ℕ → List ℕ → List ℕ → Bool
 allFresh stamp [] marks = true
 allFresh stamp (column ∷ later) marks = isFresh stamp column marks && allFresh stamp later (set marks column stamp)
@@ -25,7 +25,7 @@ pub record Below (bound : ℕ) (marks : List ℕ) : Type 0 where
   pub long : length marks ≡ 4096
   pub low : (v : ℕ) → getD marks v 0 < bound
 
--- The columns of a row from one place to another were marked: `found` says that each of them was fresh, so that those after them decide; no mark is lost, and none rose above the stamp.
+-- The columns of a row from one place to another were marked. `found` says that each was fresh, so that those after them decide; no mark is lost, and none rose above the stamp.
 pub record Marking (stamp : ℕ) (row : List ℕ) (from to : ℕ) (found : Bool) (old new : List ℕ) : Type 0 where
   pub left : allFresh stamp (drop from row) old ≡ (found && allFresh stamp (drop to row) new)
   pub long : length new ≡ length old

@@ -1,14 +1,14 @@
-// The rules of a valid pattern one after the other: for the crates above, which have made check 1 of the lengths themselves.
+// The rules of a valid pattern one after the other: for the crates above, which make check 1 of the lengths themselves.
 // These functions ask that of their callers, so that no user calls them.
 ghost use mathlib.Core.Path.{_≡_};
-ghost use mathlib.Core.Bool.{true, false};
-ghost use Prim.Native.Nat.{_+_, _≤_, _<_};
-ghost use lib.ListN.{length};
-ghost use Rattle.patterns.specs.Marks.{Below, Marking};
+ghost use mathlib.Core.Bool.{true, false, cond};
+ghost use Prim.Native.Nat.{_+_, _-_, _≤_, _<_};
 ghost use lib.Dec.{eqb};
-ghost use Rattle.patterns.specs.Pattern.{rowsOf, neverFall, validOffsets, allBelow, rises, validEntries, validPattern, validSplits};
+ghost use lib.ListN.{length, drop};
+ghost use Rattle.patterns.specs.Pattern.{rowsOf, neverFall, validOffsets, allBelow, validEntries, validPattern, rises, validSplits};
 ghost use Rattle.patterns.specs.Checks.{tooLarge};
-ghost use Rattle.patterns.specs.Steps.{rowRight, rowsRight, validAs, Ready, firstAbove, factorRow};
+ghost use Rattle.patterns.specs.Steps.{Ordered, Ready, climbs, eightClimbAt, rowsClimb, rowRight, rowsRight, validAs, risesTo, sevenRise, firstAbove, factorRow};
+ghost use Rattle.patterns.specs.Marks.{Below, Marking};
 
 fn wide(x: u32) -> usize
     ensures { λ r. ⌜ r ≡ x ⌝ }
@@ -16,7 +16,7 @@ fn wide(x: u32) -> usize
     x as usize
 }
 
-// The loop has no way out in the middle: that is some times as fast, since several offsets are then compared at once.
+// The loop has no way out in the middle: several offsets are then compared at once, which is some times as fast.
 fn never_fall(offsets: &[u32]) -> bool
     requires { ⌜ 1 ≤ length (now offsets) ⌝ }
     ensures { λ r. ⌜ r ≡ neverFall (now (offsets .entry)) ⌝ }
@@ -46,7 +46,105 @@ fn has_valid_offsets(offsets: &[u32], columns: &[u32]) -> bool
     wide(offsets[offsets.len() - 1]) == columns.len()
 }
 
-// As in `never_fall`, every column is looked at.
+// Whether the eight columns from place k on climb. There is no branch between the tests, so that several are made at once.
+fn do_eight_climb(row: &[u32], k: usize, least: u32, own: u32, n: u32) -> bool
+    requires { ⌜ k + 8 ≤ length (now row) ⌝ }
+    ensures { λ r. ⌜ r ≡ eightClimbAt n own least (now (row .entry)) k ⌝ }
+{
+    let c0 = row[k];
+    let c1 = row[k + 1];
+    let c2 = row[k + 2];
+    let c3 = row[k + 3];
+    let c4 = row[k + 4];
+    let c5 = row[k + 5];
+    let c6 = row[k + 6];
+    let c7 = row[k + 7];
+    let rise = (c0 < c1)
+        & (c1 < c2)
+        & (c2 < c3)
+        & (c3 < c4)
+        & (c4 < c5)
+        & (c5 < c6)
+        & (c6 < c7)
+        & (c7 < n);
+    let differ = (c0 != own)
+        & (c1 != own)
+        & (c2 != own)
+        & (c3 != own)
+        & (c4 != own)
+        & (c5 != own)
+        & (c6 != own)
+        & (c7 != own);
+    (c0 >= least) & (rise & differ)
+}
+
+// The columns from a place on, one at a time.
+fn does_rest_climb(row: &[u32], from: usize, first: u32, own: u32, n: u32) -> bool
+    requires { ⌜ from ≤ length (now row) ⌝ }
+    ensures { λ r. ⌜ r ≡ climbs n own first (drop from (now (row .entry))) ⌝ }
+{
+    let mut least = first;
+    let mut k = from;
+    while k < row.len() {
+        let column = row[k];
+        if column < least {
+            return false;
+        }
+        if column == own {
+            return false;
+        }
+        if column >= n {
+            return false;
+        }
+        least = column + 1;
+        k += 1;
+    }
+    true
+}
+
+// Whether a row rises strictly, has no column `own`, and all are below n. Then it needs no marks, and this is the quickest way to find it valid.
+fn is_climbing(row: &[u32], own: u32, n: u32) -> bool
+    ensures { λ r. ⌜ r ≡ climbs n own 0 (now (row .entry)) ⌝ }
+{
+    let mut least = 0;
+    let mut k = 0;
+    while k + 8 <= row.len() {
+        if !do_eight_climb(row, k, least, own, n) {
+            return false;
+        }
+        least = row[k + 7] + 1;
+        k += 8;
+    }
+    does_rest_climb(row, k, least, own, n)
+}
+
+// The column that a row must not have: its own, or none that is below n.
+fn refused_column(own: u32, n: u32, refused: bool) -> u32
+    ensures { λ r. ⌜ r ≡ cond refused own n ⌝ }
+{
+    if refused { own } else { n }
+}
+
+fn are_climbing_rows(offsets: &[u32], columns: &[u32], refused: bool) -> bool
+    requires { ⌜ Ordered (now offsets) (now columns) ⌝ }
+    ensures { λ r. ⌜ r ≡ rowsClimb refused (now (offsets .entry)) (now (columns .entry)) (rowsOf (now (offsets .entry))) ⌝ }
+{
+    let rows = offsets.len() - 1;
+    let n = rows as u32;
+    let mut i = 0;
+    while i < rows {
+        let from = wide(offsets[i]);
+        let to = wide(offsets[i + 1]);
+        let own = refused_column(i as u32, n, refused);
+        if !is_climbing(&columns[from..to], own, n) {
+            return false;
+        }
+        i += 1;
+    }
+    true
+}
+
+// Every column is looked at, as every offset is in `never_fall`.
 fn are_below(columns: &[u32], n: u32) -> bool
     ensures { λ r. ⌜ r ≡ allBelow n (now (columns .entry)) ⌝ }
 {
@@ -61,70 +159,7 @@ fn are_below(columns: &[u32], n: u32) -> bool
     right
 }
 
-fn rises_strictly(row: &[u32]) -> bool
-    ensures { λ r. ⌜ r ≡ rises (now (row .entry)) ⌝ }
-{
-    let mut k = 0;
-    while k + 1 < row.len() {
-        if row[k] >= row[k + 1] {
-            return false;
-        }
-        k += 1;
-    }
-    true
-}
-
-// Whether place k of a row that rises is the first whose column exceeds `own`, or its end: the columns on both sides of it tell.
-fn is_first_above(row: &[u32], own: u32, k: usize) -> bool
-    requires { ⌜ rises (now row) ≡ true ⌝ }
-    ensures { λ r. ⌜ r ≡ eqb k (firstAbove own (now (row .entry))) ⌝ }
-{
-    if k > row.len() {
-        return false;
-    }
-    if k < row.len() {
-        if row[k] <= own {
-            return false;
-        }
-    }
-    if k > 0 {
-        return row[k - 1] <= own;
-    }
-    true
-}
-
-// Whether a row that begins at place `first` rises strictly and has a true split.
-fn is_factor_row(row: &[u32], own: u32, first: usize, split: usize) -> bool
-    ensures { λ r. ⌜ r ≡ factorRow own first split (now (row .entry)) ⌝ }
-{
-    if !rises_strictly(row) {
-        return false;
-    }
-    if split < first {
-        return false;
-    }
-    is_first_above(row, own, split - first)
-}
-
-// Sorted rows and true splits, of a pattern that is valid.
-pub fn has_valid_splits(offsets: &[u32], columns: &[u32], splits: &[u32]) -> bool
-    requires { ⌜ (tooLarge (length (now offsets)) (length (now columns)) ≡ false) × (length (now splits) ≡ rowsOf (now offsets)) × (validPattern (now offsets) (now columns) ≡ true) ⌝ }
-    ensures { λ r. ⌜ r ≡ validSplits (now (offsets .entry)) (now (columns .entry)) (now (splits .entry)) ⌝ }
-{
-    let mut i = 0;
-    while i < splits.len() {
-        let first = wide(offsets[i]);
-        let end = wide(offsets[i + 1]);
-        let split = wide(splits[i]);
-        if !is_factor_row(&columns[first..end], i as u32, first, split) {
-            return false;
-        }
-        i += 1;
-    }
-    true
-}
-
-// Marks column k of a row with the row's stamp. Whether it did not have it.
+// Marks column k of a row with the row's stamp, and says whether it did not have it.
 fn is_next_fresh(marks: &mut [u8; 4096], row: &[u32], k: usize, stamp: u8) -> bool
     requires { ⌜ (k < length (now row)) × (allBelow 4096 (now row) ≡ true) ⌝ }
     ensures { λ r. ⌜ Marking stamp (now (row .entry)) k (k + 1) r (now (marks .entry)) (now (marks .exit)) ⌝ }
@@ -152,7 +187,7 @@ fn are_four_fresh(marks: &mut [u8; 4096], row: &[u32], k: usize, stamp: u8) -> b
     is_next_fresh(marks, row, k + 3, stamp)
 }
 
-// The columns from a place on.
+// The columns from a place on, one at a time.
 fn are_rest_fresh(marks: &mut [u8; 4096], row: &[u32], from: usize, stamp: u8) -> bool
     requires { ⌜ (from ≤ length (now row)) × (allBelow 4096 (now row) ≡ true) ⌝ }
     ensures { λ r. ⌜ Marking stamp (now (row .entry)) from (length (now (row .entry))) r (now (marks .entry)) (now (marks .exit)) ⌝ }
@@ -167,6 +202,7 @@ fn are_rest_fresh(marks: &mut [u8; 4096], row: &[u32], from: usize, stamp: u8) -
     true
 }
 
+// Whether each column of a row is new when it is marked.
 fn is_row_fresh(marks: &mut [u8; 4096], row: &[u32], stamp: u8) -> bool
     requires { ⌜ allBelow 4096 (now row) ≡ true ⌝ }
     ensures { λ r. ⌜ Marking stamp (now (row .entry)) 0 (length (now (row .entry))) r (now (marks .entry)) (now (marks .exit)) ⌝ }
@@ -240,12 +276,16 @@ fn are_right_rows(offsets: &[u32], columns: &[u32], refused: bool) -> bool
     true
 }
 
+// Rows that all climb are valid. Others may be too: then the marks decide.
 fn is_valid(offsets: &[u32], columns: &[u32], refused: bool) -> bool
     requires { ⌜ tooLarge (length (now offsets)) (length (now columns)) ≡ false ⌝ }
     ensures { λ r. ⌜ r ≡ validAs refused (now (offsets .entry)) (now (columns .entry)) ⌝ }
 {
     if !has_valid_offsets(offsets, columns) {
         return false;
+    }
+    if are_climbing_rows(offsets, columns, refused) {
+        return true;
     }
     if !are_below(columns, (offsets.len() - 1) as u32) {
         return false;
@@ -267,4 +307,98 @@ pub fn is_valid_entries(offsets: &[u32], columns: &[u32]) -> bool
     ensures { λ r. ⌜ r ≡ validEntries (now (offsets .entry)) (now (columns .entry)) ⌝ }
 {
     is_valid(offsets, columns, false)
+}
+
+// Whether the seven steps between the eight columns from place k on rise, tested as in `do_eight_climb`.
+fn do_seven_rise(row: &[u32], k: usize) -> bool
+    requires { ⌜ k + 8 ≤ length (now row) ⌝ }
+    ensures { λ r. ⌜ r ≡ sevenRise (now (row .entry)) k ⌝ }
+{
+    let c0 = row[k];
+    let c1 = row[k + 1];
+    let c2 = row[k + 2];
+    let c3 = row[k + 3];
+    let c4 = row[k + 4];
+    let c5 = row[k + 5];
+    let c6 = row[k + 6];
+    let c7 = row[k + 7];
+    (c0 < c1) & (c1 < c2) & (c2 < c3) & (c3 < c4) & (c4 < c5) & (c5 < c6) & (c6 < c7)
+}
+
+// The steps from a place on, one at a time.
+fn does_rest_rise(row: &[u32], from: usize) -> bool
+    requires { ⌜ (from ≤ length (now row) - 1) × (risesTo (now row) from ≡ true) ⌝ }
+    ensures { λ r. ⌜ r ≡ rises (now (row .entry)) ⌝ }
+{
+    let mut k = from;
+    while k + 1 < row.len() {
+        if row[k] >= row[k + 1] {
+            return false;
+        }
+        k += 1;
+    }
+    true
+}
+
+fn rises_strictly(row: &[u32]) -> bool
+    ensures { λ r. ⌜ r ≡ rises (now (row .entry)) ⌝ }
+{
+    let mut k = 0;
+    while k + 8 <= row.len() {
+        if !do_seven_rise(row, k) {
+            return false;
+        }
+        k += 7;
+    }
+    does_rest_rise(row, k)
+}
+
+// Whether place k of a row that rises is the first whose column exceeds `own`, or its end: the columns on both sides of it tell.
+fn is_first_above(row: &[u32], own: u32, k: usize) -> bool
+    requires { ⌜ rises (now row) ≡ true ⌝ }
+    ensures { λ r. ⌜ r ≡ eqb k (firstAbove own (now (row .entry))) ⌝ }
+{
+    if k > row.len() {
+        return false;
+    }
+    if k < row.len() {
+        if row[k] <= own {
+            return false;
+        }
+    }
+    if k > 0 {
+        return row[k - 1] <= own;
+    }
+    true
+}
+
+// Whether a row that begins at place `first` rises strictly and has a true split.
+fn is_factor_row(row: &[u32], own: u32, first: usize, split: usize) -> bool
+    ensures { λ r. ⌜ r ≡ factorRow own first split (now (row .entry)) ⌝ }
+{
+    if !rises_strictly(row) {
+        return false;
+    }
+    if split < first {
+        return false;
+    }
+    is_first_above(row, own, split - first)
+}
+
+// Sorted rows and true splits, of a pattern that is valid.
+pub fn has_valid_splits(offsets: &[u32], columns: &[u32], splits: &[u32]) -> bool
+    requires { ⌜ (tooLarge (length (now offsets)) (length (now columns)) ≡ false) × (length (now splits) ≡ rowsOf (now offsets)) × (validPattern (now offsets) (now columns) ≡ true) ⌝ }
+    ensures { λ r. ⌜ r ≡ validSplits (now (offsets .entry)) (now (columns .entry)) (now (splits .entry)) ⌝ }
+{
+    let mut i = 0;
+    while i < splits.len() {
+        let first = wide(offsets[i]);
+        let end = wide(offsets[i + 1]);
+        let split = wide(splits[i]);
+        if !is_factor_row(&columns[first..end], i as u32, first, split) {
+            return false;
+        }
+        i += 1;
+    }
+    true
 }

@@ -5,8 +5,9 @@ use mathlib.Core.List.{List, [], _∷_}
 use mathlib.Core.Bool.{Bool, true, false, not, _||_}
 use Prim.Native.Nat.{ℕ, _*_, _≤_, _<_}
 use native.Mathlib.Omega.{arith}
-use lib.Dec.{ltb, eqb}
+use lib.Dec.{ltb}
 use borrow.Author.Tests.{eq-eqb, ne-eqb, eqb-true, lt-ltb, le-ltb, ltb-false, not-false}
+use Rattle.base.proofs.All.{or-left, or-right}
 use Rattle.answers.specs.Checks.{Check, _when_, firstOf, order, inOrder}
 use Rattle.answers.specs.Limits.{rowsOutOfRange, wrongLength, vectorChecks}
 use Rattle.answers.specs.Promise.{names}
@@ -44,9 +45,7 @@ passed false true done = absurd (two-not-zero done)
 passed false false done = refl
 
 either-false : (a b : Bool) → (a || b) ≡ false → (a ≡ false) × (b ≡ false)
-either-false true true h = (h, h)
-either-false true false h = (h, refl)
-either-false false b h = (refl, h)
+either-false a b h = (or-left a b h, or-right a b h)
 
 -- where the first slice is refused, so is the call; where it is not, the second one decides
 refused-already : (r a b : Bool) → (firstOf (oneTwo r a) ≡ 0 → ⊥) → firstOf (oneTwo r a) ≡ firstOf (oneTwo r (a || b))

@@ -14,12 +14,12 @@ use Rattle.answers.specs.declared.Answer.{Answer}
 use Rattle.answers.specs.declared.Answer.the-variants.{Done}
 use Rattle.answers.specs.Numbers.{numberOf, refusalNumber, refusalValues}
 use Rattle.answers.specs.Checks.{Check, firstOf}
-use Rattle.answers.specs.Promise.{after, names}
+use Rattle.answers.specs.Promise.{names}
 use Rattle.answers.proofs.EndLaws.{none-of-zero, some-of-number, unnamed-number}
 use Rattle.answers.proofs.SameAnswer.{same-answer}
 use Rattle.vectors.specs.declared.Dot.{Dot}
 use Rattle.vectors.specs.declared.Dot.the-variants.{Sum, Refused}
-use Rattle.vectors.specs.Sums.{dotNumber, dotValues, Dotted}
+use Rattle.vectors.specs.DotAnswers.{dotNumber, dotValues, Dotted}
 
 -- a refusal is not 0, and carries nothing unless it is 9
 plain : (why : Refusal) → (refusalNumber why ≡ 9 → ⊥) → (refusalNumber why ≡ 0 → ⊥) × (refusalValues why ≡ [])

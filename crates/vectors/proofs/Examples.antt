@@ -9,8 +9,7 @@ use Rattle.base.specs.Each.{each}
 use Rattle.answers.specs.Checks.{firstOf}
 use Rattle.answers.specs.Limits.{vectorChecks}
 use Rattle.vectors.specs.Checks.{pairChecks, longFlagChecks}
-use Rattle.vectors.specs.Vectors.{zeroed, zeroAt, copied, copyAt, addScaled, addScaledAt, scaleAdd, scaleAddAt, scaledBy, scaleAt, fixed, fixAt}
-use Rattle.vectors.specs.Sums.{dotTo}
+use Rattle.vectors.specs.Vectors.{zeroed, zeroAt, copied, copyAt, addScaled, addScaledAt, scaleAdd, scaleAddAt, scaledBy, scaleAt, fixed, fixAt, dotTo}
 
 abbrev plusZero : Float
 plusZero = fin false 0 (pos 0)

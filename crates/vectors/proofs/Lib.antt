@@ -2,7 +2,6 @@
 -- Assumes nothing.
 pub mod FlagLaws
 pub mod CheckLaws
-pub mod EndedLaws
 pub mod DotLaws
 pub mod VectorLaws
 pub mod Examples

@@ -2,4 +2,4 @@
 -- Definitions only.
 pub mod Checks
 pub mod Vectors
-pub mod Sums
+pub mod DotAnswers

@@ -1,14 +1,14 @@
--- Document 01's vtx2xn, and `set_fix_dof_to_rhs_vector`: what becomes of each value of a vector, at any format f.
+-- Document 01's vtx2xn, and `set_fix_dof_to_rhs_vector`: what becomes of each value of a vector, and the dot product, at any format f.
 -- Definitions only.
 use mathlib.Core.List.{List}
 use mathlib.Core.Bool.{Bool, true, not, cond}
-use Prim.Native.Nat.{ℕ}
+use Prim.Native.Nat.{ℕ, zero, suc, _+_, _*_}
 use lib.Dec.{eqb}
 use lib.IntN.{ℤ, pos, negsuc}
 use lib.ListN.{getD}
 use lib.Ieee.{Float, Format, nan, add, mul}
 use Rattle.base.specs.Each.{each}
-use Rattle.blocks.specs.Block.{plusZero}
+use Rattle.blocks.specs.Block.{plusZero, sumTo}
 
 -- set_zero: each value becomes +0
 unfoldable pub zeroAt : Format → ℕ → Float → Float
@@ -60,3 +60,12 @@ fixAt f flags k x = keptBy f (getD flags k (pos 0)) x
 
 unfoldable pub fixed : Format → List ℤ → List Float → List Float
 fixed f flags values = each (fixAt f flags) values
+
+-- row i's own sum: from +0, in rising index
+abbrev pub rowDot : Format → ℕ → List Float → List Float → ℕ → Float
+rowDot f n u v i = sumTo f n (λ k. mul f (getD u (n * i + k) nan) (getD v (n * i + k) nan))
+
+-- the running sum over the first rows: from +0, each row's own sum is added
+unfoldable pub dotTo : Format → ℕ → List Float → List Float → ℕ → Float
+dotTo f n u v zero = plusZero f
+dotTo f n u v (suc i) = add f (dotTo f n u v i) (rowDot f n u v i)

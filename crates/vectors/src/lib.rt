@@ -14,13 +14,25 @@ ghost use Rattle.answers.specs.Checks.{firstOf};
 ghost use Rattle.answers.specs.Limits.{vectorChecks};
 ghost use Rattle.answers.specs.Promise.{Ends};
 ghost use Rattle.vectors.specs.Checks.{pairChecks, longFlagChecks};
-ghost use Rattle.vectors.specs.Vectors.{zeroed, copied, addScaled, scaleAdd, fixed};
-ghost use Rattle.vectors.specs.Sums.{dotTo, Dotted};
+ghost use Rattle.vectors.specs.Vectors.{zeroed, copied, addScaled, scaleAdd, fixed, dotTo};
+ghost use Rattle.vectors.specs.DotAnswers.{dotNumber, Dotted};
 
 // What a dot product answers.
 pub enum Dot {
     Sum(f64),
     Refused(Refusal),
+}
+
+impl Dot {
+    // 0 if there is a sum, else the number of the refusal.
+    pub fn number(self) -> u32
+        ensures { λ r. ⌜ r ≡ dotNumber self ⌝ }
+    {
+        match self {
+            Dot::Sum(_) => 0,
+            Dot::Refused(why) => why.number(),
+        }
+    }
 }
 
 // The checks of two lengths: once the first is N*n, the second is compared with it.

@@ -4,8 +4,7 @@ ghost use mathlib.Core.Path.{_≡_};
 ghost use Prim.Native.Nat.{_+_, _*_, _≤_};
 ghost use lib.ListN.{length};
 ghost use lib.Ieee.{binary64};
-ghost use Rattle.vectors.specs.Vectors.{zeroed, copied, addScaled, scaleAdd, scaledBy, keptBy, fixed};
-ghost use Rattle.vectors.specs.Sums.{rowDot, dotTo};
+ghost use Rattle.vectors.specs.Vectors.{zeroed, copied, addScaled, scaleAdd, scaledBy, keptBy, fixed, rowDot, dotTo};
 
 // Each value becomes +0.
 pub fn set_zero(p: &mut [f64])

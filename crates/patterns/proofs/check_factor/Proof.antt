@@ -1,4 +1,6 @@
-use mathlib.Core.Path.{_≡_, refl, sym, ap, _∙_}
+-- `check_factor` meets its promise: each return answers the first check whose condition holds, and what the earlier ones have shown is what the later ones ask.
+-- Assumes nothing.
+use mathlib.Core.Path.{sym, _∙_}
 use native.Mathlib.Omega.{arith}
 use lib.ListN.{length}
 use borrow.Author.Tests.{eq-eqb, ne-eqb, not-true, not-false}
@@ -6,43 +8,27 @@ use Rattle.patterns.proofs.SizeLaws.{rows-least}
 use borrow.Author.Needs.{needs}
 use Rattle.patterns.proofs.check_factor.Statement.{statement}
 use Rattle.patterns.proofs.check_factor.Tie as tie
-use Rattle.patterns.proofs.check_factor.Reads as reads
-use Rattle.patterns.proofs.check_factor.Lts as lts
-use Rattle.patterns.proofs.is_too_large.Reads as is-too-large-reads
-use Rattle.patterns.proofs.unchecked.has_valid_splits.Reads as has-valid-splits-reads
-use Rattle.patterns.proofs.unchecked.is_valid_pattern.Reads as is-valid-pattern-reads
 
--- src/lib.rt:60:8
-is-too-large-requires : tie.Need-is-too-large-requires
-is-too-large-requires c κs = search needs
-
--- src/lib.rt:61:9
 returns : tie.Need-returns
 returns c = rw (sym (c .before .is-too-large .ensures) ∙ c .if1 .taken)
 
--- src/lib.rt:63:24
 sub-if2 : tie.Need-sub-if2
 sub-if2 c = let a = c .before .before .before .before .before .args in omega (arith, rows-least (length (a .offsets .now)) (length (a .columns .now)) (sym (c .before .is-too-large .ensures) ∙ c .if1 .left))
 
--- src/lib.rt:64:9
 returns-2 : tie.Need-returns-2
 returns-2 c = rw (sym (c .before .before .is-too-large .ensures) ∙ c .before .if1 .left, ne-eqb _ _ (c .if2 .taken))
 
--- src/lib.rt:66:9
 is-valid-pattern-requires : tie.Need-is-valid-pattern-requires
 is-valid-pattern-requires c κs = sym (c .before .before .is-too-large .ensures) ∙ c .before .if1 .left
 
--- src/lib.rt:67:9
 returns-3 : tie.Need-returns-3
 returns-3 c =
     rw (sym (c .before .before .before .before .is-too-large .ensures) ∙ c .before .before .before .if1 .left, eq-eqb _ _ (c .before .before .if2 .left), sym (c .before .is-valid-pattern .ensures) ∙ not-true _ (c .if3 .taken))
 
--- src/lib.rt:69:9
 has-valid-splits-requires : tie.Need-has-valid-splits-requires
 has-valid-splits-requires c κs =
     (sym (c .before .before .before .before .is-too-large .ensures) ∙ c .before .before .before .if1 .left, c .before .before .if2 .left, sym (c .before .is-valid-pattern .ensures) ∙ not-false _ (c .if3 .left))
 
--- src/lib.rt:70:9
 returns-4 : tie.Need-returns-4
 returns-4 c =
     rw (
@@ -52,7 +38,6 @@ returns-4 c =
       sym (c .before .has-valid-splits .ensures) ∙ not-true _ (c .if4 .taken),
     )
 
--- src/lib.rt:57:1
 returns-5 : tie.Need-returns-5
 returns-5 c =
     rw (
@@ -64,14 +49,5 @@ returns-5 c =
 
 pub check-factor-spec : {M : Type 1} → statement M
 check-factor-spec =
-    tie.close
-    (tie.spec
-    is-too-large-requires
-    returns
-    sub-if2
-    returns-2
-    is-valid-pattern-requires
-    returns-3
-    has-valid-splits-requires
-    returns-4
+    tie.close (tie.spec (λ c κs. search needs) returns sub-if2 returns-2 is-valid-pattern-requires returns-3 has-valid-splits-requires returns-4
     returns-5)

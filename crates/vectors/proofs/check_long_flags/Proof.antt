@@ -1,6 +1,7 @@
 -- `check_long_flags` meets its promise: each return answers the first check whose condition holds.
 -- Assumes nothing.
 use mathlib.Core.Path.{_≡_, sym, _∙_}
+use native.Mathlib.Omega.{arith}
 use borrow.Author.Needs.{needs}
 use Rattle.answers.specs.Checks.{firstOf}
 use Rattle.answers.specs.Limits.{vectorChecks}
@@ -22,13 +23,13 @@ done c = sym (c .before .before .check-vector .ensures) ∙ sym (c .before .numb
 returns-2 : tie.Need-returns-2
 returns-2 c =
     let a = c .before .before .before .before .args in
-    sym (long-flag-short (a .n) (a .dim) (a .values) (a .flags) (done (c .before)) (c .if2 .taken))
+    sym (long-flag-short (a .n) (a .dim) (a .values) (a .flags) (done (c .before)) (omega arith))
 
 returns-3 : tie.Need-returns-3
 returns-3 c =
     let call = c .before .before .before in
     let a = call .before .args in
-    call .check-vector .ensures ∙ done (c .before) ∙ sym (long-flag-enough (a .n) (a .dim) (a .values) (a .flags) (done (c .before)) (c .if2 .left))
+    call .check-vector .ensures ∙ done (c .before) ∙ sym (long-flag-enough (a .n) (a .dim) (a .values) (a .flags) (done (c .before)) (omega arith))
 
 pub check-long-flags-spec : {M : Type 1} → statement M
 check-long-flags-spec = tie.close (tie.spec (λ c κs. search needs) (λ c κs. search needs) returns returns-2 returns-3)

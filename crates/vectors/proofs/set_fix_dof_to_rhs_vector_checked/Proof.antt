@@ -5,7 +5,7 @@ use native.Mathlib.Omega.{arith}
 use lib.ListN.{length}
 use borrow.Author.Needs.{needs}
 use Rattle.vectors.proofs.CheckLaws.{long-flag-lengths}
-use Rattle.vectors.proofs.EndedLaws.{refused, done}
+use Rattle.answers.proofs.EndLaws.{refused, done}
 use Rattle.vectors.proofs.set_fix_dof_to_rhs_vector_checked.Statement.{statement}
 use Rattle.vectors.proofs.set_fix_dof_to_rhs_vector_checked.Tie as tie
 

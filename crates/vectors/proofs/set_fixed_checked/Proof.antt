@@ -5,7 +5,7 @@ use native.Mathlib.Omega.{arith}
 use lib.ListN.{length}
 use borrow.Author.Needs.{needs}
 use Rattle.vectors.proofs.CheckLaws.{pair-lengths}
-use Rattle.vectors.proofs.EndedLaws.{refused, done}
+use Rattle.answers.proofs.EndLaws.{refused, done}
 use Rattle.vectors.proofs.set_fixed_checked.Statement.{statement}
 use Rattle.vectors.proofs.set_fixed_checked.Tie as tie
 

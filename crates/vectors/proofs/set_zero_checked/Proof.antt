@@ -2,7 +2,7 @@
 -- Assumes nothing.
 use mathlib.Core.Path.{refl}
 use borrow.Author.Needs.{needs}
-use Rattle.vectors.proofs.EndedLaws.{refused, done}
+use Rattle.answers.proofs.EndLaws.{refused, done}
 use Rattle.vectors.proofs.set_zero_checked.Statement.{statement}
 use Rattle.vectors.proofs.set_zero_checked.Tie as tie
 

@@ -1,24 +1,11 @@
+-- `unchecked::is_right_row` meets its promise: no mark had the stamp, so that marking finds whether the columns differ, with the own one before them if it is refused.
+-- Assumes nothing.
 use mathlib.Core.Logic.{⊎-elim}
 use Rattle.patterns.proofs.MarkLaws.{right-refused, right-accepted}
-use mathlib.Core.Path.{_≡_, refl, sym, ap, _∙_}
-use lib.ListN.{length, getD}
-use native.Mathlib.Omega.{arith}
 use borrow.Author.Needs.{needs}
 use Rattle.patterns.proofs.unchecked.is_right_row.Statement.{statement}
 use Rattle.patterns.proofs.unchecked.is_right_row.Tie as tie
-use Rattle.patterns.proofs.unchecked.is_right_row.Reads as reads
-use Rattle.patterns.proofs.unchecked.is_right_row.Lts as lts
-use Rattle.patterns.proofs.unchecked.is_row_fresh.Reads as is-row-fresh-reads
 
--- src/unchecked.rt:190:9
-element-write-marks : tie.Need-element-write-marks
-element-write-marks c = search needs
-
--- src/unchecked.rt:192:5
-is-row-fresh-requires : tie.Need-is-row-fresh-requires
-is-row-fresh-requires c κs = search needs
-
--- src/unchecked.rt:185:1
 returns : tie.Need-returns
 returns c =
     let s = c .before .before .before .before in
@@ -29,4 +16,5 @@ returns c =
     (c .before .before .if1 .came)
 
 pub is-right-row-spec : {M : Type 1} → statement M
-is-right-row-spec = tie.close (tie.spec element-write-marks is-row-fresh-requires returns)
+is-right-row-spec =
+    tie.close (tie.spec (λ c. search needs) (λ c κs. search needs) returns)

@@ -1,14 +1,14 @@
 -- `unchecked::dot` meets its promise: after i turns the sum is that of the first i rows.
 -- Assumes nothing.
 use mathlib.Core.Path.{_≡_, refl}
-use Prim.Native.Nat.{_*_, _-_, _≤_, _<_}
+use Prim.Native.Nat.{_-_, _≤_, _<_}
 use native.Mathlib.Omega.{arith}
 use native.Mathlib.Numerals.{add-one}
 use lib.ListN.{length}
 use lib.Ieee.{binary64}
 use borrow.Author.Needs.{needs}
 use Rattle.base.proofs.Sizes.{part-fits}
-use Rattle.vectors.specs.Sums.{dotTo}
+use Rattle.vectors.specs.Vectors.{dotTo}
 use Rattle.vectors.proofs.unchecked.dot.Statement.{statement}
 use Rattle.vectors.proofs.unchecked.dot.Tie as tie
 
