@@ -11,7 +11,7 @@ use crate::rules::{self, Shape};
 use crate::settings::Settings;
 use crate::tally::{Dim, Tally};
 use crate::values::{self, KINDS};
-use crate::words;
+use crate::words::{self, Element};
 
 /// What a call is given, as words.
 #[derive(Clone)]
@@ -232,7 +232,7 @@ impl ByteCall {
             .inputs
             .iter()
             .zip(bytes)
-            .map(|(&(name, _), bytes)| Lent::new(name, bytes, random))
+            .map(|(&(name, _), bytes)| Lent::new(name, Element::Value, bytes, random))
             .collect();
         let mut out = Lent::dirty("out", out_length, random);
         let value = f64::from_bits(number.unwrap_or(0));
@@ -250,7 +250,7 @@ impl ByteCall {
             lent: &lent,
         };
         let expected = self.expect(dim, bytes, number, out_length);
-        judge(&case, &expected, got, tally);
+        judge(&case, &expected, got.into(), tally);
     }
 
     fn expect(
@@ -277,6 +277,7 @@ impl ByteCall {
         Expected {
             number: line.number,
             row: line.row,
+            sum: None,
             after,
         }
     }

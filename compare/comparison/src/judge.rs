@@ -1,7 +1,7 @@
 // Holds what the port made of a case to what was expected: the answer, every lent slice, and the bytes beside.
 // Every call is judged here, whatever slices it is lent; a difference is shown with all that was given.
 
-use port::Outcome;
+use port::{Outcome, Summed};
 
 use crate::lent::Lent;
 use crate::rules;
@@ -16,12 +16,64 @@ pub enum After {
     Bytes(Vec<u8>),
     /// These doubles; any NaN is equal to any NaN, but has to be written in the one pattern.
     Values(Vec<u64>),
+    /// These doubles, of a slice that the call reads too: here a NaN may also stay as it was lent.
+    Kept(Vec<u64>),
+}
+
+impl After {
+    fn values(&self) -> Option<&[u64]> {
+        match self {
+            After::Values(values) | After::Kept(values) => Some(values),
+            After::Unchanged | After::Bytes(_) => None,
+        }
+    }
+}
+
+/// What a call answered: the number, its row, and the sum if it is a call that gives one.
+#[derive(Clone, Copy)]
+pub struct Answered {
+    pub number: u32,
+    pub row: u32,
+    pub sum: Option<u64>,
+}
+
+impl From<Outcome> for Answered {
+    fn from(outcome: Outcome) -> Answered {
+        Answered {
+            number: outcome.number,
+            row: outcome.row,
+            sum: None,
+        }
+    }
+}
+
+impl From<Summed> for Answered {
+    fn from(summed: Summed) -> Answered {
+        Answered {
+            number: summed.number,
+            row: summed.row,
+            sum: Some(words::word_of(summed.sum)),
+        }
+    }
+}
+
+/// The number alone, as timed calls answer.
+impl From<u32> for Answered {
+    fn from(number: u32) -> Answered {
+        Answered {
+            number,
+            row: 0,
+            sum: None,
+        }
+    }
 }
 
 /// What has to come of a case.
 pub struct Expected {
     pub number: u32,
     pub row: u32,
+    /// +0 if the call gives a sum and was refused.
+    pub sum: Option<u64>,
     /// For each lent slice, in the order in which they are lent.
     pub after: Vec<After>,
 }
@@ -33,6 +85,7 @@ impl Expected {
         Expected {
             number,
             row: 0,
+            sum: None,
             after: (0..slices).map(|_| After::Unchanged).collect(),
         }
     }
@@ -55,24 +108,32 @@ pub struct Case<'a> {
 }
 
 /// Counts the case, and reports it if it differs from what was expected.
-pub fn judge(case: &Case, expected: &Expected, got: Outcome, tally: &mut Tally) {
+pub fn judge(case: &Case, expected: &Expected, got: Answered, tally: &mut Tally) {
     assert_eq!(case.lent.len(), expected.after.len());
     tally.answered(case.call, case.dim, got.number, 1);
-    for after in &expected.after {
-        if let After::Values(words) = after {
-            let nans = words.iter().filter(|&&word| words::is_nan(word)).count();
-            tally.compared(case.call, case.dim, words.len() as u64, nans as u64);
-        }
+    for words in expected.after.iter().filter_map(After::values) {
+        count_words(case, words, tally);
+    }
+    if expected.number == rules::DONE {
+        count_words(case, expected.sum.as_slice(), tally);
     }
     if let Some(fault) = fault(case, expected, got) {
         tally.differs(case.call, case.dim, || show(&fault, case, expected, got));
     }
 }
 
+fn count_words(case: &Case, words: &[u64], tally: &mut Tally) {
+    let nans = words.iter().filter(|&&word| words::is_nan(word)).count();
+    tally.compared(case.call, case.dim, words.len() as u64, nans as u64);
+}
+
 /// What is wrong, if anything is.
-fn fault(case: &Case, expected: &Expected, got: Outcome) -> Option<String> {
+fn fault(case: &Case, expected: &Expected, got: Answered) -> Option<String> {
     if (got.number, got.row) != (expected.number, expected.row) {
         return Some("another answer".to_string());
+    }
+    if got.sum != expected.sum {
+        return Some("another sum".to_string());
     }
     let mut slices = case.lent.iter().zip(&expected.after);
     slices.find_map(|(lent, after)| slice_fault(lent, after))
@@ -88,19 +149,23 @@ fn slice_fault(lent: &Lent, after: &After) -> Option<String> {
         After::Unchanged => Some(format!("{name} was changed")),
         After::Bytes(bytes) if lent.bytes() == bytes => None,
         After::Bytes(_) => Some(format!("{name} has other bytes")),
-        After::Values(expected) => values_fault(name, expected, &words::words_in(lent.bytes())),
+        After::Values(expected) => values_fault(lent, expected, false),
+        After::Kept(expected) => values_fault(lent, expected, true),
     }
 }
 
-fn values_fault(name: &str, expected: &[u64], got: &[u64]) -> Option<String> {
+/// `kept` says whether a NaN may stay as it was lent.
+fn values_fault(lent: &Lent, expected: &[u64], kept: bool) -> Option<String> {
+    let name = lent.name();
+    let (entry, got) = (words::words_in(lent.entry()), words::words_in(lent.bytes()));
     if expected.len() != got.len() {
         return Some(format!("{name} has another length"));
     }
-    for (at, (&expected, &got)) in expected.iter().zip(got).enumerate() {
+    for (at, (&expected, &got)) in expected.iter().zip(&got).enumerate() {
         if !words::agree(expected, got) {
             return Some(format!("another word at place {at} of {name}"));
         }
-        if words::is_nan(got) && got != words::NAN {
+        if words::is_nan(got) && got != words::NAN && !(kept && got == entry[at]) {
             let right = words::NAN;
             return Some(format!(
                 "a NaN not written as {right:016X} at place {at} of {name}"
@@ -110,7 +175,7 @@ fn values_fault(name: &str, expected: &[u64], got: &[u64]) -> Option<String> {
     None
 }
 
-fn show(fault: &str, case: &Case, expected: &Expected, got: Outcome) -> String {
+fn show(fault: &str, case: &Case, expected: &Expected, got: Answered) -> String {
     let mut lines = vec![fault.to_string()];
     for (name, given) in case.given {
         lines.push(match given {
@@ -119,27 +184,33 @@ fn show(fault: &str, case: &Case, expected: &Expected, got: Outcome) -> String {
         });
     }
     for lent in case.lent {
-        let entry = words::show_bytes(lent.entry());
+        let entry = lent.show(lent.entry());
         lines.push(format!("lent {}: {entry}", lent.name()));
     }
-    let (number, row) = (expected.number, expected.row);
-    lines.push(format!("expected: number {number}, row {row}"));
-    lines.push(format!("got:      number {}, row {}", got.number, got.row));
+    let right = show_answer(expected.number, expected.row, expected.sum);
+    lines.push(format!("expected: {right}"));
+    let answered = show_answer(got.number, got.row, got.sum);
+    lines.push(format!("got:      {answered}"));
     for (lent, after) in case.lent.iter().zip(&expected.after) {
         if !matches!(after, After::Unchanged) || !lent.unchanged() {
             let name = lent.name();
             lines.push(format!("expected {name}: {}", show_after(lent, after)));
-            let got = words::show_bytes(lent.bytes());
+            let got = lent.show(lent.bytes());
             lines.push(format!("got      {name}: {got}"));
         }
     }
     format!("  {}\n", lines.join("\n  "))
 }
 
+fn show_answer(number: u32, row: u32, sum: Option<u64>) -> String {
+    let sum = sum.map(|sum| format!(", sum {}", words::show_words(&[sum])));
+    format!("number {number}, row {row}{}", sum.unwrap_or_default())
+}
+
 fn show_after(lent: &Lent, after: &After) -> String {
     match after {
-        After::Unchanged => words::show_bytes(lent.entry()),
-        After::Bytes(bytes) => words::show_bytes(bytes),
-        After::Values(values) => words::show_bytes(&words::bytes_of(values)),
+        After::Unchanged => lent.show(lent.entry()),
+        After::Bytes(bytes) => lent.show(bytes),
+        After::Values(values) | After::Kept(values) => lent.show(&words::bytes_of(values)),
     }
 }

@@ -4,12 +4,14 @@
 use std::hint::black_box;
 
 use crate::random::Random;
+use crate::words::{self, Element};
 
 /// Guard bytes on each side, and up to 7 more before for the alignment.
 const GUARD: usize = 16;
 
 pub struct Lent {
     name: &'static str,
+    element: Element,
     whole: Vec<u8>,
     before: Vec<u8>,
     from: usize,
@@ -17,7 +19,7 @@ pub struct Lent {
 }
 
 impl Lent {
-    pub fn new(name: &'static str, bytes: &[u8], random: &mut Random) -> Lent {
+    pub fn new(name: &'static str, element: Element, bytes: &[u8], random: &mut Random) -> Lent {
         let from = GUARD + random.below(8);
         let length = bytes.len();
         let mut whole = vec![0; from + length + GUARD];
@@ -26,6 +28,7 @@ impl Lent {
         let before = whole.clone();
         Lent {
             name,
+            element,
             whole,
             before,
             from,
@@ -33,15 +36,39 @@ impl Lent {
         }
     }
 
-    /// Bytes that hold anything, as those of an output do before the call.
+    /// A slice that was lent as something else than bytes: the bytes of it and of its guards, before and after.
+    pub fn returned(
+        name: &'static str,
+        element: Element,
+        before: Vec<u8>,
+        after: Vec<u8>,
+        guard: usize,
+    ) -> Lent {
+        assert_eq!(before.len(), after.len());
+        Lent {
+            name,
+            element,
+            from: guard,
+            length: before.len() - 2 * guard,
+            whole: after,
+            before,
+        }
+    }
+
+    /// Bytes of values that hold anything, as those of an output do before the call.
     pub fn dirty(name: &'static str, length: usize, random: &mut Random) -> Lent {
         let mut bytes = vec![0; length];
         random.fill(&mut bytes);
-        Lent::new(name, &bytes, random)
+        Lent::new(name, Element::Value, &bytes, random)
     }
 
     pub fn name(&self) -> &'static str {
         self.name
+    }
+
+    /// Bytes as words of this slice, for a message.
+    pub fn show(&self, bytes: &[u8]) -> String {
+        words::show_bytes(self.element, bytes)
     }
 
     pub fn len(&self) -> usize {

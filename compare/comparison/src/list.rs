@@ -26,12 +26,17 @@ impl Line {
         text
     }
 
-    /// Reads a line of a call with this many input words; None if it is not one.
-    pub fn parse(text: &str, input_count: usize) -> Option<Line> {
+    /// Reads a line; None if it is not one. How many of its words are inputs is said by its call, its N and
+    /// the words.
+    pub fn parse(
+        text: &str,
+        input_words: impl Fn(&str, usize, &[u64]) -> Option<usize>,
+    ) -> Option<Line> {
         let mut fields = text.split(' ');
         let call = fields.next()?.to_string();
-        let dim = fields.next()?.parse().ok()?;
+        let dim: u32 = fields.next()?.parse().ok()?;
         let words = fields.map(parse_word).collect::<Option<Vec<u64>>>()?;
+        let input_count = input_words(&call, dim as usize, &words)?;
         let (inputs, rest) = words.split_at_checked(input_count)?;
         let [number, row, outputs @ ..] = rest else {
             return None;
@@ -68,6 +73,6 @@ mod tests {
             row: 7,
             outputs: vec![0x3FF0_0000_0000_0000, 5],
         };
-        assert_eq!(Line::parse(&line.text(), 3), Some(line));
+        assert_eq!(Line::parse(&line.text(), |_, _, _| Some(3)), Some(line));
     }
 }

@@ -1,4 +1,4 @@
-// Kinds of doubles that comparisons are made on, and lists of them.
+// Kinds of doubles that comparisons are made on, lists of them, factors and fixing flags.
 // Purely random bits are mostly huge or tiny; rounding, signs of zero and NaN need kinds of their own.
 
 use crate::random::Random;
@@ -166,4 +166,46 @@ pub fn mixed(count: usize, random: &mut Random) -> Vec<u64> {
         5 => of_kinds(&[Kind::Whole, Kind::Zero], count, random),
         _ => of_kind(Kind::Ordinary, count, random),
     }
+}
+
+/// Factors that a careless reader may treat apart.
+const FACTORS: [f64; 8] = [
+    0.0,
+    -0.0,
+    1.0,
+    -1.0,
+    f64::INFINITY,
+    f64::NEG_INFINITY,
+    f64::NAN,
+    0.5,
+];
+
+/// A number that values are multiplied by, or that is written to the diagonal.
+pub fn factor(random: &mut Random) -> u64 {
+    match random.below(3) {
+        0 => random.pick(&FACTORS).to_bits(),
+        1 => word(*random.pick(&KINDS), random),
+        _ => word(Kind::Ordinary, random),
+    }
+}
+
+/// Flags that fix, of either sign, some with zeros in all bytes but one.
+const FIXING: [i32; 8] = [1, -1, i32::MIN, i32::MAX, 2, 1 << 8, 1 << 16, 1 << 24];
+
+fn flag(random: &mut Random) -> i32 {
+    match random.below(3) {
+        0 => random.bits() as i32,
+        _ => *random.pick(&FIXING),
+    }
+}
+
+/// Fixing flags, as the 32 bits of each: none, all, or some that fix.
+pub fn flags(count: usize, random: &mut Random) -> Vec<u64> {
+    let fixed_in_8 = *random.pick(&[0, 1, 3, 3, 4, 8]);
+    let each = (0..count).map(|_| {
+        let fixes = random.below(8) < fixed_in_8;
+        let flag = if fixes { flag(random) } else { 0 };
+        u64::from(flag as u32)
+    });
+    each.collect()
 }

@@ -1,5 +1,51 @@
-// Doubles as 64-bit words and as bytes, low byte first, and when two words count as equal:
+// Doubles, indexes and flags as words and as bytes, low byte first, and when two doubles count as equal:
 // if they are the same, or if both are a NaN of whatever pattern.
+
+/// What a word of a lent slice is.
+#[derive(Clone, Copy, Debug, PartialEq, Eq)]
+pub enum Element {
+    /// The 64 bits of a double.
+    Value,
+    /// A u32.
+    Index,
+    /// An i32, of which the word has the 32 bits.
+    Flag,
+}
+
+impl Element {
+    /// Bytes of one word.
+    pub fn bytes(self) -> usize {
+        match self {
+            Element::Value => 8,
+            Element::Index | Element::Flag => 4,
+        }
+    }
+
+    /// The whole words of bytes; what is left over is passed over.
+    pub fn words_in(self, bytes: &[u8]) -> Vec<u64> {
+        match self {
+            Element::Value => {
+                let words = bytes.as_chunks::<8>().0.iter();
+                words.map(|word| u64::from_le_bytes(*word)).collect()
+            }
+            Element::Index | Element::Flag => {
+                let words = bytes.as_chunks::<4>().0.iter();
+                words
+                    .map(|word| u64::from(u32::from_le_bytes(*word)))
+                    .collect()
+            }
+        }
+    }
+
+    /// The bytes of words, of which an index or a flag has the lower half.
+    pub fn bytes_of(self, words: &[u64]) -> Vec<u8> {
+        let low = |word: &u64| (*word as u32).to_le_bytes();
+        match self {
+            Element::Value => bytes_of(words),
+            Element::Index | Element::Flag => words.iter().flat_map(low).collect(),
+        }
+    }
+}
 
 /// The pattern that the port writes for a NaN.
 pub const NAN: u64 = 0x7FF8_0000_0000_0000;
@@ -56,10 +102,29 @@ pub fn show_words(words: &[u64]) -> String {
     parts.join(", ")
 }
 
+/// Indexes as they are, flags with their sign.
+fn show_numbers(element: Element, words: &[u64]) -> String {
+    let number = |word: u64| match element {
+        Element::Flag => i64::from(word as u32 as i32),
+        _ => word as i64,
+    };
+    let shown = words.iter().take(8 * SHOWN);
+    let mut parts: Vec<String> = shown.map(|&word| number(word).to_string()).collect();
+    if words.len() > parts.len() {
+        parts.push(format!("and {} more", words.len() - parts.len()));
+    }
+    parts.join(", ")
+}
+
 /// Lent bytes as words, or as single bytes where they are not whole words.
-pub fn show_bytes(bytes: &[u8]) -> String {
-    if bytes.len().is_multiple_of(8) {
-        return format!("{} bytes: {}", bytes.len(), show_words(&words_in(bytes)));
+pub fn show_bytes(element: Element, bytes: &[u8]) -> String {
+    if bytes.len().is_multiple_of(element.bytes()) {
+        let words = element.words_in(bytes);
+        let shown = match element {
+            Element::Value => show_words(&words),
+            _ => show_numbers(element, &words),
+        };
+        return format!("{} bytes: {shown}", bytes.len());
     }
     let shown: Vec<String> = bytes
         .iter()

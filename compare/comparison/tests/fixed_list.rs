@@ -3,17 +3,13 @@
 
 use comparison::groups;
 use comparison::list::{Line, SEED};
+use comparison::stack;
 use comparison::words;
 
-/// The input words of a line's call, by the line's first two fields.
-fn input_words(text: &str) -> usize {
-    let mut fields = text.split(' ');
-    let (call, dim) = (fields.next().unwrap(), fields.next().unwrap());
-    let dim = dim.parse().unwrap();
-    let mut found = groups::ALL
-        .iter()
-        .map(|group| (group.input_words)(call, dim));
-    found.find_map(|words| words).expect("a call of some group")
+/// How many of a line's words are inputs, by the group of its call.
+fn input_words(call: &str, dim: usize, words: &[u64]) -> Option<usize> {
+    let mut groups = groups::ALL.iter();
+    groups.find_map(|group| (group.input_words)(call, dim, words))
 }
 
 fn agree(a: &Line, b: &Line) -> bool {
@@ -24,34 +20,58 @@ fn agree(a: &Line, b: &Line) -> bool {
 
 #[test]
 fn the_port_answers_every_line() {
-    for group in groups::ALL {
-        for line in (group.sample)(SEED) {
-            let text = line.text();
-            let read = Line::parse(&text, input_words(&text)).expect(&text);
-            assert_eq!(read, line);
-            let made = (group.replay)(&read);
-            assert!(
-                agree(&made, &line),
-                "expected {text}\ngot      {}",
-                made.text()
-            );
+    stack::with_room(|| {
+        for group in groups::ALL {
+            for line in (group.sample)(SEED) {
+                let text = line.text();
+                let read = Line::parse(&text, input_words).expect(&text);
+                assert_eq!(read, line);
+                let made = (group.replay)(&read);
+                assert!(
+                    agree(&made, &line),
+                    "expected {text}\ngot      {}",
+                    made.text()
+                );
+            }
         }
-    }
+    });
+}
+
+fn all_lines() -> Vec<Line> {
+    let lines = groups::ALL.iter().map(|group| (group.sample)(SEED));
+    lines.flatten().collect()
 }
 
 #[test]
 fn the_list_has_every_call_and_answer() {
-    let lines: Vec<Line> = groups::ALL
-        .iter()
-        .flat_map(|group| (group.sample)(SEED))
-        .collect();
-    assert!((550..750).contains(&lines.len()), "{} lines", lines.len());
-    for number in [0, 1, 2, 9] {
-        assert!(lines.iter().any(|line| line.number == number), "{number}");
-    }
+    let lines = all_lines();
+    assert!((900..1100).contains(&lines.len()), "{} lines", lines.len());
+    let has = |call: &str, dim: u32, number: u32| {
+        let mut lines = lines.iter();
+        lines.any(|line| (line.call.as_str(), line.dim, line.number) == (call, dim, number))
+    };
     for dim in 1..=3 {
-        assert!(lines
-            .iter()
-            .any(|line| line.dim == dim && line.call == "inverse" && line.number == 9));
+        assert!(has("inverse", dim, 9));
+        for number in [0, 1, 2] {
+            assert!(has("dot", dim, number), "dot {number}");
+        }
+        for number in [0, 1, 2, 3] {
+            assert!(has("mult_vec", dim, number), "mult_vec {number}");
+        }
+    }
+    for call in ["merge", "csrdia", "blkcsr"] {
+        for number in [0, 1, 2, 3, 6, 7] {
+            assert!(has(call, 1, number), "{call} {number}");
+        }
+    }
+    assert!(has("check_factor", 1, 11));
+}
+
+/// A reader without Rust keeps a line's words in a place of fixed length.
+#[test]
+fn no_line_is_long() {
+    for line in all_lines() {
+        let words = line.inputs.len() + 2 + line.outputs.len();
+        assert!(words <= 125, "{} {}: {words} words", line.call, line.dim);
     }
 }

@@ -226,3 +226,154 @@ fn flags_may_be_longer_than_the_vector() {
     sparse_square::set_fix_dof_to_rhs_vector(&mut right_side, &[[0, -3], [1, 1]]);
     assert_eq!(right_side, [[1.0, 0.0]]);
 }
+
+/// A matrix of N = 1 with these offsets and columns; values are 1, 2, 4, ... and the diagonal is 100 each.
+fn matrix_of(offsets: &[usize], columns: &[usize]) -> MatrixOwned<[f64; 1]> {
+    let n = offsets.len() - 1;
+    let mut power = 0.5;
+    let values = columns.iter().map(|_| {
+        power *= 2.0;
+        [power]
+    });
+    MatrixOwned {
+        num_blk: n,
+        row2idx: offsets.to_vec(),
+        idx2col: columns.to_vec(),
+        idx2val: values.collect(),
+        row2val: vec![[100.0]; n],
+    }
+}
+
+/// y of y = A*x for x = (1, 10, 1000).
+fn times(matrix: &MatrixOwned<[f64; 1]>) -> Vec<f64> {
+    let mut y = vec![[0.0]; matrix.num_blk];
+    matrix.mult_vec(&mut y, 1.0, 1.0, &[[1.0], [10.0], [1000.0]]);
+    y.concat()
+}
+
+#[test]
+fn mult_vec_takes_a_longer_x() {
+    // 01 refuses it by 2. A shorter one panics.
+    assert_eq!(times(&matrix_of(&[0, 1, 1], &[1])), [110.0, 1000.0]);
+    let matrix = matrix_of(&[0, 1, 1], &[1]);
+    assert!(panics(|| matrix.mult_vec(
+        &mut [[0.0]; 2],
+        1.0,
+        1.0,
+        &[[1.0]]
+    )));
+}
+
+#[test]
+fn mult_vec_takes_patterns_that_are_not_valid() {
+    // 01 refuses each by 3. A row's own column is added beside the diagonal.
+    assert_eq!(times(&matrix_of(&[0, 1, 1], &[0])), [101.0, 1000.0]);
+    // A column that stands twice is added twice.
+    assert_eq!(times(&matrix_of(&[0, 2, 2], &[1, 1])), [130.0, 1000.0]);
+    // Where offsets fall the row has no entry, and a first offset above 0 passes entries over.
+    assert_eq!(times(&matrix_of(&[0, 1, 0], &[1])), [110.0, 1000.0]);
+    assert_eq!(times(&matrix_of(&[1, 2, 2], &[1, 1])), [120.0, 1000.0]);
+    // So does a last offset below the number of columns.
+    assert_eq!(times(&matrix_of(&[0, 1, 1], &[1, 0])), [110.0, 1000.0]);
+}
+
+#[test]
+fn merge_takes_any_number_of_nodes() {
+    // 01 refuses 0 and 9 nodes by 2.
+    let mut matrix = matrix_of(&[0, 1, 2], &[1, 0]);
+    matrix.merge(&[], &[], &mut Vec::new());
+    assert_eq!(matrix.row2val, [[100.0], [100.0]]);
+    let offsets: Vec<usize> = (0..=9).map(|i| 8 * i).collect();
+    let columns: Vec<usize> = (0..9)
+        .flat_map(|i| (0..9).filter(move |&j| j != i))
+        .collect();
+    let mut matrix = MatrixOwned::<[f64; 1]>::from_vtx2vtx(&offsets, &columns);
+    let nodes = [8, 7, 6, 5, 4, 3, 2, 1, 0];
+    matrix.merge(&[[[1.0]; 9]; 9], &nodes, &mut Vec::new());
+    let all = matrix.row2val.iter().chain(&matrix.idx2val);
+    assert!(all.into_iter().all(|value| *value == [1.0]));
+}
+
+#[test]
+fn merge_takes_patterns_that_are_not_valid() {
+    // 01 refuses both by 3. A column that stands twice is added to at its last place.
+    let mut matrix = matrix_of(&[0, 2, 3], &[1, 1, 0]);
+    matrix.merge(&[[[8.0]; 2]; 2], &[0, 1], &mut Vec::new());
+    assert_eq!(matrix.idx2val, [[1.0], [10.0], [12.0]]);
+    // With its own column in the row, a vertex may be named twice.
+    let mut matrix = matrix_of(&[0, 1], &[0]);
+    matrix.merge(&[[[8.0]; 2]; 2], &[0, 0], &mut Vec::new());
+    assert_eq!((matrix.row2val[0], matrix.idx2val[0]), ([116.0], [17.0]));
+}
+
+#[test]
+fn merge_adds_before_it_panics_on_a_vertex_named_twice() {
+    // 01 refuses it by 7, and nothing has changed.
+    let mut matrix = matrix_of(&[0, 1, 2], &[1, 0]);
+    assert!(panics(|| matrix.merge(
+        &[[[8.0]; 2]; 2],
+        &[0, 0],
+        &mut Vec::new()
+    )));
+    assert_eq!(matrix.row2val, [[108.0], [100.0]]);
+}
+
+#[test]
+fn csrdia_and_blkcsr_add_repeated_nodes_one_after_another() {
+    // As 01 has it: a list may name a row or a column again. By row node, then column node the sum is 1, since
+    // 1e16 takes the first 1 in; by column node it would be 2, and backwards 0.
+    let element = [[[1e16], [1.0]], [[-1e16], [1.0]]];
+    let (offsets, columns) = ([0, 1, 1], [1]);
+    let csrdia = |cols: [usize; 2]| {
+        let (mut diagonal, mut entries) = ([0.0; 2], [0.0; 1]);
+        merge::csrdia(
+            &[0, 0],
+            &cols,
+            &element,
+            &offsets,
+            &columns,
+            &mut diagonal,
+            &mut entries,
+            &mut Vec::new(),
+        );
+        (diagonal, entries)
+    };
+    assert_eq!(csrdia([1, 1]), ([0.0, 0.0], [1.0]));
+    assert_eq!(csrdia([0, 0]), ([1.0, 0.0], [0.0]));
+    let mut entries = [0.0];
+    merge::blkcsr(
+        &[0, 0],
+        &[1, 1],
+        &element,
+        &offsets,
+        &columns,
+        &mut entries,
+        &mut Vec::new(),
+    );
+    assert_eq!(entries, [1.0]);
+}
+
+#[test]
+fn blkcsr_does_not_look_at_the_length_of_the_values() {
+    // 01 refuses one value too many by 2.
+    let mut entries = [0.0; 2];
+    let (offsets, columns) = ([0, 1, 1], [1]);
+    merge::blkcsr(
+        &[0],
+        &[1],
+        &[[[5.0]]],
+        &offsets,
+        &columns,
+        &mut entries,
+        &mut Vec::new(),
+    );
+    assert_eq!(entries, [5.0, 0.0]);
+}
+
+#[test]
+fn vectors_may_have_no_row_or_any_number() {
+    // 01 refuses both by 1.
+    assert_eq!(vtx2xn::dot::<f64, 2>(&[], &[]), 0.0);
+    let ones = vec![[1.0]; 4097];
+    assert_eq!(vtx2xn::dot(&ones, &ones), 4097.0);
+}

@@ -1,5 +1,5 @@
 // A safe wrapper for each of the port's entry points: the only file of this workspace with `unsafe`.
-// It is sound because the port reads and writes a lent slice only within its count, which is proved.
+// It is sound because the port stays within a lent slice's count, which is proved; see what `unchecked_` calls ask.
 
 use crate::entries::*;
 
@@ -8,6 +8,7 @@ use crate::entries::*;
 macro_rules! wrap {
     ($(#[$about:meta])* $name:ident => $entry:ident ( $($kind:ident $arg:ident : $type:ty),* ) $(-> $answer:ty)?) => {
         $(#[$about])*
+        #[allow(clippy::too_many_arguments)]
         #[inline]
         pub fn $name($($arg: wrap!(@type $kind $type)),*) $(-> $answer)? {
             wrap!(@call $entry [] $($kind $arg,)*)
@@ -103,4 +104,122 @@ wrap! {
 wrap! {
     /// As many vectors as are lent, scaled, for measuring.
     timed_scale => pierbramble_timed_scale(take dim: u32, read v: f64, take s: f64, write out: f64)
+}
+wrap! {
+    /// Every value +0.
+    set_zero => pierbramble_set_zero(take dim: u32, take n: u32, write p: u8) -> Outcome
+}
+wrap! {
+    /// The other vector's values.
+    copy => pierbramble_copy(take dim: u32, take n: u32, write p: u8, read u: u8) -> Outcome
+}
+wrap! {
+    /// u + p*alpha, to u.
+    add_scaled_vector => pierbramble_add_scaled_vector(take dim: u32, take n: u32, write u: u8, take alpha: f64, read p: u8) -> Outcome
+}
+wrap! {
+    /// r + p*beta, to p.
+    scale_and_add_vec => pierbramble_scale_and_add_vec(take dim: u32, take n: u32, write p: u8, take beta: f64, read r: u8) -> Outcome
+}
+wrap! {
+    /// +0 at every fixed value.
+    set_fixed => pierbramble_set_fixed(take dim: u32, take n: u32, write values: u8, read flags: u8) -> Outcome
+}
+wrap! {
+    /// +0 at every fixed value; flags may be longer than the vector.
+    set_fix_dof_to_rhs_vector => pierbramble_set_fix_dof_to_rhs_vector(take dim: u32, take n: u32, write rhs: u8, read flags: u8) -> Outcome
+}
+wrap! {
+    /// Each row's own sum added to a running sum.
+    dot => pierbramble_dot(take dim: u32, take n: u32, read v0: u8, read v1: u8) -> Summed
+}
+wrap! {
+    /// Whether a pattern is valid: the row's own column is absent.
+    check_pattern => pierbramble_check_pattern(read offsets: u8, read columns: u8) -> Outcome
+}
+wrap! {
+    /// Whether a pattern is valid where the row's own column may stand.
+    check_entries => pierbramble_check_entries(read offsets: u8, read columns: u8) -> Outcome
+}
+wrap! {
+    /// Whether a factor pattern is valid, its rows rise and its splits are right.
+    check_factor => pierbramble_check_factor(read offsets: u8, read columns: u8, read splits: u8) -> Outcome
+}
+wrap! {
+    /// Columns in rising order.
+    sort_row => pierbramble_sort_row(write columns: u8) -> Outcome
+}
+wrap! {
+    /// y*beta + (A*x)*alpha, to y.
+    mult_vec => pierbramble_mult_vec(take dim: u32, read offsets: u8, read columns: u8, read values: u8, read diagonal: u8, write y: u8, take beta: f64, take alpha: f64, read x: u8) -> Outcome
+}
+wrap! {
+    /// Every value of a matrix +0.
+    matrix_set_zero => pierbramble_matrix_set_zero(take dim: u32, read offsets: u8, read columns: u8, write values: u8, write diagonal: u8) -> Outcome
+}
+wrap! {
+    /// Rows and columns of fixed values cleared, `val_dia` at their own place.
+    set_fixed_bc => pierbramble_set_fixed_bc(take dim: u32, take val_dia: f64, read flags: u8, write diagonal: u8, write values: u8, read offsets: u8, read columns: u8) -> Outcome
+}
+wrap! {
+    /// An element added, the same node place to the diagonal.
+    merge => pierbramble_merge(take dim: u32, read nodes: u8, read element: u8, read offsets: u8, read columns: u8, write diagonal: u8, write values: u8) -> Outcome
+}
+wrap! {
+    /// An element added at N = 1, equal row and column numbers to the diagonal.
+    csrdia => pierbramble_csrdia(read rows: u8, read cols: u8, read element: u8, read offsets: u8, read columns: u8, write diagonal: u8, write values: u8) -> Outcome
+}
+wrap! {
+    /// An element added, every pair to an entry.
+    blkcsr => pierbramble_blkcsr(take dim: u32, read rows: u8, read cols: u8, read element: u8, read offsets: u8, read columns: u8, write values: u8) -> Outcome
+}
+wrap! {
+    /// `set_zero` on values, for measuring. So are the next ones, and they answer as the calls on bytes.
+    timed_set_zero => pierbramble_timed_set_zero(take dim: u32, take n: u32, write p: f64) -> u32
+}
+wrap! {
+    /// `copy` on values.
+    timed_copy => pierbramble_timed_copy(take dim: u32, take n: u32, write p: f64, read u: f64) -> u32
+}
+wrap! {
+    /// `add_scaled_vector` on values.
+    timed_add_scaled_vector => pierbramble_timed_add_scaled_vector(take dim: u32, take n: u32, write u: f64, take alpha: f64, read p: f64) -> u32
+}
+wrap! {
+    /// `scale_and_add_vec` on values.
+    timed_scale_and_add_vec => pierbramble_timed_scale_and_add_vec(take dim: u32, take n: u32, write p: f64, take beta: f64, read r: f64) -> u32
+}
+wrap! {
+    /// `set_fixed` on values.
+    timed_set_fixed => pierbramble_timed_set_fixed(take dim: u32, take n: u32, write values: f64, read flags: i32) -> u32
+}
+wrap! {
+    /// `dot` on values.
+    timed_dot => pierbramble_timed_dot(take dim: u32, take n: u32, read v0: f64, read v1: f64) -> Summed
+}
+wrap! {
+    /// `check_pattern` on indexes.
+    timed_check_pattern => pierbramble_timed_check_pattern(read offsets: u32, read columns: u32) -> u32
+}
+wrap! {
+    /// `mult_vec` on values.
+    timed_mult_vec => pierbramble_timed_mult_vec(take dim: u32, read offsets: u32, read columns: u32, read values: f64, read diagonal: f64, write y: f64, take beta: f64, take alpha: f64, read x: f64) -> u32
+}
+wrap! {
+    /// `mult_vec` without any check. Only to be called with a valid matrix and right lengths: what
+    /// `timed_mult_vec` answers with 0. With anything else it may go beyond the slices.
+    unchecked_mult_vec => pierbramble_unchecked_mult_vec(take dim: u32, read offsets: u32, read columns: u32, read values: f64, read diagonal: f64, write y: f64, take beta: f64, take alpha: f64, read x: f64)
+}
+wrap! {
+    /// `merge` on values.
+    timed_merge => pierbramble_timed_merge(take dim: u32, read nodes: u32, read element: f64, read offsets: u32, read columns: u32, write diagonal: f64, write values: f64) -> u32
+}
+wrap! {
+    /// `merge` without a check of the pattern. Only to be called with a valid matrix and an element that
+    /// fits it: what `timed_merge` answers with 0. With anything else it may go beyond the slices.
+    unchecked_merge => pierbramble_unchecked_merge(take dim: u32, read nodes: u32, read element: f64, read offsets: u32, read columns: u32, write diagonal: f64, write values: f64)
+}
+wrap! {
+    /// `set_fixed_bc` on values.
+    timed_set_fixed_bc => pierbramble_timed_set_fixed_bc(take dim: u32, take val_dia: f64, read flags: i32, write diagonal: f64, write values: f64, read offsets: u32, read columns: u32) -> u32
 }

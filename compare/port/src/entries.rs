@@ -1,5 +1,5 @@
 // The port's C entry points, in the order of its crate `host`. This is the only place that declares them.
-// A lent slice is a pointer and a count of elements: bytes for `u8`, values for `f64`.
+// A lent slice is a pointer and a count of elements: bytes for `u8`, values for `f64`, words for `u32` and `i32`.
 
 /// Document 01's number, 0 for done, and the row of number 9.
 #[repr(C)]
@@ -7,6 +7,15 @@
 pub struct Outcome {
     pub number: u32,
     pub row: u32,
+}
+
+/// The same with a sum, which is +0 if the call was refused.
+#[repr(C)]
+#[derive(Clone, Copy, Debug)]
+pub struct Summed {
+    pub number: u32,
+    pub row: u32,
+    pub sum: f64,
 }
 
 #[rustfmt::skip]
@@ -30,4 +39,33 @@ extern "C" {
     pub(crate) fn pierbramble_timed_subtract(dim: u32, u: *const f64, u_count: usize, v: *const f64, v_count: usize, out: *mut f64, out_count: usize);
     pub(crate) fn pierbramble_timed_subtract_block(dim: u32, u: *const f64, u_count: usize, v: *const f64, v_count: usize, out: *mut f64, out_count: usize);
     pub(crate) fn pierbramble_timed_scale(dim: u32, v: *const f64, v_count: usize, s: f64, out: *mut f64, out_count: usize);
+    pub(crate) fn pierbramble_set_zero(dim: u32, n: u32, p: *mut u8, p_count: usize) -> Outcome;
+    pub(crate) fn pierbramble_copy(dim: u32, n: u32, p: *mut u8, p_count: usize, u: *const u8, u_count: usize) -> Outcome;
+    pub(crate) fn pierbramble_add_scaled_vector(dim: u32, n: u32, u: *mut u8, u_count: usize, alpha: f64, p: *const u8, p_count: usize) -> Outcome;
+    pub(crate) fn pierbramble_scale_and_add_vec(dim: u32, n: u32, p: *mut u8, p_count: usize, beta: f64, r: *const u8, r_count: usize) -> Outcome;
+    pub(crate) fn pierbramble_set_fixed(dim: u32, n: u32, values: *mut u8, values_count: usize, flags: *const u8, flags_count: usize) -> Outcome;
+    pub(crate) fn pierbramble_set_fix_dof_to_rhs_vector(dim: u32, n: u32, rhs: *mut u8, rhs_count: usize, flags: *const u8, flags_count: usize) -> Outcome;
+    pub(crate) fn pierbramble_dot(dim: u32, n: u32, v0: *const u8, v0_count: usize, v1: *const u8, v1_count: usize) -> Summed;
+    pub(crate) fn pierbramble_check_pattern(offsets: *const u8, offsets_count: usize, columns: *const u8, columns_count: usize) -> Outcome;
+    pub(crate) fn pierbramble_check_entries(offsets: *const u8, offsets_count: usize, columns: *const u8, columns_count: usize) -> Outcome;
+    pub(crate) fn pierbramble_check_factor(offsets: *const u8, offsets_count: usize, columns: *const u8, columns_count: usize, splits: *const u8, splits_count: usize) -> Outcome;
+    pub(crate) fn pierbramble_sort_row(columns: *mut u8, columns_count: usize) -> Outcome;
+    pub(crate) fn pierbramble_mult_vec(dim: u32, offsets: *const u8, offsets_count: usize, columns: *const u8, columns_count: usize, values: *const u8, values_count: usize, diagonal: *const u8, diagonal_count: usize, y: *mut u8, y_count: usize, beta: f64, alpha: f64, x: *const u8, x_count: usize) -> Outcome;
+    pub(crate) fn pierbramble_matrix_set_zero(dim: u32, offsets: *const u8, offsets_count: usize, columns: *const u8, columns_count: usize, values: *mut u8, values_count: usize, diagonal: *mut u8, diagonal_count: usize) -> Outcome;
+    pub(crate) fn pierbramble_set_fixed_bc(dim: u32, val_dia: f64, flags: *const u8, flags_count: usize, diagonal: *mut u8, diagonal_count: usize, values: *mut u8, values_count: usize, offsets: *const u8, offsets_count: usize, columns: *const u8, columns_count: usize) -> Outcome;
+    pub(crate) fn pierbramble_merge(dim: u32, nodes: *const u8, nodes_count: usize, element: *const u8, element_count: usize, offsets: *const u8, offsets_count: usize, columns: *const u8, columns_count: usize, diagonal: *mut u8, diagonal_count: usize, values: *mut u8, values_count: usize) -> Outcome;
+    pub(crate) fn pierbramble_csrdia(rows: *const u8, rows_count: usize, cols: *const u8, cols_count: usize, element: *const u8, element_count: usize, offsets: *const u8, offsets_count: usize, columns: *const u8, columns_count: usize, diagonal: *mut u8, diagonal_count: usize, values: *mut u8, values_count: usize) -> Outcome;
+    pub(crate) fn pierbramble_blkcsr(dim: u32, rows: *const u8, rows_count: usize, cols: *const u8, cols_count: usize, element: *const u8, element_count: usize, offsets: *const u8, offsets_count: usize, columns: *const u8, columns_count: usize, values: *mut u8, values_count: usize) -> Outcome;
+    pub(crate) fn pierbramble_timed_set_zero(dim: u32, n: u32, p: *mut f64, p_count: usize) -> u32;
+    pub(crate) fn pierbramble_timed_copy(dim: u32, n: u32, p: *mut f64, p_count: usize, u: *const f64, u_count: usize) -> u32;
+    pub(crate) fn pierbramble_timed_add_scaled_vector(dim: u32, n: u32, u: *mut f64, u_count: usize, alpha: f64, p: *const f64, p_count: usize) -> u32;
+    pub(crate) fn pierbramble_timed_scale_and_add_vec(dim: u32, n: u32, p: *mut f64, p_count: usize, beta: f64, r: *const f64, r_count: usize) -> u32;
+    pub(crate) fn pierbramble_timed_set_fixed(dim: u32, n: u32, values: *mut f64, values_count: usize, flags: *const i32, flags_count: usize) -> u32;
+    pub(crate) fn pierbramble_timed_dot(dim: u32, n: u32, v0: *const f64, v0_count: usize, v1: *const f64, v1_count: usize) -> Summed;
+    pub(crate) fn pierbramble_timed_check_pattern(offsets: *const u32, offsets_count: usize, columns: *const u32, columns_count: usize) -> u32;
+    pub(crate) fn pierbramble_timed_mult_vec(dim: u32, offsets: *const u32, offsets_count: usize, columns: *const u32, columns_count: usize, values: *const f64, values_count: usize, diagonal: *const f64, diagonal_count: usize, y: *mut f64, y_count: usize, beta: f64, alpha: f64, x: *const f64, x_count: usize) -> u32;
+    pub(crate) fn pierbramble_unchecked_mult_vec(dim: u32, offsets: *const u32, offsets_count: usize, columns: *const u32, columns_count: usize, values: *const f64, values_count: usize, diagonal: *const f64, diagonal_count: usize, y: *mut f64, y_count: usize, beta: f64, alpha: f64, x: *const f64, x_count: usize);
+    pub(crate) fn pierbramble_timed_merge(dim: u32, nodes: *const u32, nodes_count: usize, element: *const f64, element_count: usize, offsets: *const u32, offsets_count: usize, columns: *const u32, columns_count: usize, diagonal: *mut f64, diagonal_count: usize, values: *mut f64, values_count: usize) -> u32;
+    pub(crate) fn pierbramble_unchecked_merge(dim: u32, nodes: *const u32, nodes_count: usize, element: *const f64, element_count: usize, offsets: *const u32, offsets_count: usize, columns: *const u32, columns_count: usize, diagonal: *mut f64, diagonal_count: usize, values: *mut f64, values_count: usize);
+    pub(crate) fn pierbramble_timed_set_fixed_bc(dim: u32, val_dia: f64, flags: *const i32, flags_count: usize, diagonal: *mut f64, diagonal_count: usize, values: *mut f64, values_count: usize, offsets: *const u32, offsets_count: usize, columns: *const u32, columns_count: usize) -> u32;
 }

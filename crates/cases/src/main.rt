@@ -1,13 +1,19 @@
 // Runs document 01's cases by calls of the library, and prints what each answers: the number, then values as their 64 bits.
-// Today these are the cases that blocks and the root can show: the pivots of cases 8 and 9, inverses and products at their edges, case 12.
+// Today: the pivots of cases 8 and 9, inverses and products at their edges, case 12, and every refusal of the vector, pattern, matrix and element calls.
+pub mod element_cases;
+pub mod matrix_cases;
+pub mod pattern_cases;
+pub mod vector_cases;
+
 use answers::Answer;
+use limits::Seen;
 
 fn print_value(x: f64) {
     io::write_all(1, b" ");
     io::print_hex(1, words::bits_of(x), 16);
 }
 
-fn print_values(name: &[u8], values: &[f64]) {
+pub fn print_values(name: &[u8], values: &[f64]) {
     io::write_all(1, name);
     let mut k = 0;
     while k < values.len() {
@@ -15,6 +21,18 @@ fn print_values(name: &[u8], values: &[f64]) {
         k += 1;
     }
     io::write_all(1, b"\n");
+}
+
+// A number of a line of cases; a refused call that changed a word is shouted.
+pub fn print_seen(seen: Seen) {
+    let number = seen.number;
+    io::write_all(1, b" ");
+    io::print_decimal(1, number as u64);
+    if number != 0 {
+        if !seen.kept {
+            io::write_all(1, b" CHANGED");
+        }
+    }
 }
 
 fn print_inverse(name: &[u8], answer: Answer, values: &[f64]) {
@@ -127,4 +145,8 @@ fn main() {
     inverses();
     products();
     roots();
+    vector_cases::run();
+    pattern_cases::run();
+    matrix_cases::run();
+    element_cases::run();
 }

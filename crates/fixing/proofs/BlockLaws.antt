@@ -1,16 +1,16 @@
 -- Blocks by their elements, for every N at once: what stands at a place of a block, a block that is its own elements, and a part that is put back where it was.
 -- Assumes nothing.
-use mathlib.Core.Path.{_≡_, refl, sym, ap, _∙_}
+use mathlib.Core.Path.{_≡_, refl, ap, _∙_}
 use mathlib.Core.Logic.{⊎-elim}
-use mathlib.Core.List.{List, [], _∷_, _++_, append-assoc}
+use mathlib.Core.List.{List, [], _∷_}
 use Prim.Native.Nat.{ℕ, zero, suc, _+_, _*_, _/_, _%_, _≤_, _<_}
 use native.Mathlib.Nat.{not-suc-le-zero, le-of-suc-le-suc, eq-or-lt-of-le, mul-le-mul-left, mod-lt, mod-eq-of-lt, div-eq-of-lt, mod-add-div, add-mul-mod-self-left, add-mul-div-left, div-lt-iff-lt-mul}
 use native.Mathlib.Omega.{arith}
 use lib.ListN.{length, getD, take, drop, length-append, List·getD-append, take-append-drop}
-use lib.Seq.{paste, take-add, take-length, getD-at}
+use lib.Seq.{take-add, take-length, getD-at}
 use lib.Ieee.{Float, nan}
 use Rattle.blocks.specs.Block.{listed, element, blockOf}
-use Rattle.blocks.specs.Lent.{valuesAt, blockAt, putAt}
+use Rattle.blocks.specs.Lent.{valuesAt, putAt}
 use Rattle.blocks.proofs.LentLaws.{values-part}
 
 pub length-listed : (m : ℕ) (g : ℕ → Float) → length (listed m g) ≡ m

@@ -1,18 +1,18 @@
 -- The ends of a checked call on a matrix and its flags: lengths refuse it, the pattern refuses it, or it is done. And what holds in the last case.
 -- Assumes nothing.
-use mathlib.Core.Path.{_≡_, refl, sym, ap, _∙_}
+use mathlib.Core.Path.{_≡_, refl}
 use mathlib.Core.List.{List, [], _∷_}
 use mathlib.Core.Bool.{true, false, not}
-use Prim.Native.Nat.{ℕ, _*_, _≤_}
+use Prim.Native.Nat.{ℕ, _*_}
 use native.Mathlib.Omega.{arith}
 use lib.ListN.{length}
 use Rattle.answers.specs.declared.Answer.{Answer}
 use Rattle.answers.specs.declared.Answer.the-variants.{Refused}
 use Rattle.answers.specs.declared.Refusal.the-variants.{Pattern}
 use Rattle.answers.specs.Numbers.{numberOf}
-use Rattle.answers.specs.Checks.{_when_, firstOf, noneHolds}
+use Rattle.answers.specs.Checks.{_when_, firstOf, noneHolds, order, inOrder}
 use Rattle.answers.specs.Promise.{Ends}
-use Rattle.answers.proofs.EndLaws.{none-of-zero, ends-later, ends-earlier}
+use Rattle.answers.proofs.EndLaws.{none-of-zero, ends-later, ends-earlier, same-answer-at-end, same-lent-at-end}
 use Rattle.lent.specs.Steps.{Dim}
 use Rattle.patterns.specs.Pattern.{rowsOf, validPattern}
 use Rattle.patterns.proofs.SizeLaws.{rows-least}
@@ -26,6 +26,17 @@ pub both-same : {A B : Type 0} {a x : A} {b y : B} → a ≡ x → b ≡ y → _
 both-same p q = cc
 
 module _ (n : ℕ) (o cs : List ℕ) (values diagonal flags : ℕ) where
+  -- The checks come in document 01's order and answer no 9, so that two calls that meet the promise agree in everything.
+  pub in-order : inOrder order (vectorChecks n o cs values diagonal flags flags) ≡ true
+  in-order = refl
+
+  pub same-end : {A : Type 0} (new old : A) (a b : Answer) (x y : A) → Ends (vectorChecks n o cs values diagonal flags flags) a new old x
+      → Ends (vectorChecks n o cs values diagonal flags flags) b new old y → (a ≡ b) × (x ≡ y)
+  same-end new old a b x y p q = (
+    same-answer-at-end (vectorChecks n o cs values diagonal flags flags) new old a b x y p q refl,
+    same-lent-at-end (vectorChecks n o cs values diagonal flags flags) new old a b x y p q,
+  )
+
   pub lengths-refuse : {A : Type 0} (answer : Answer) (k : ℕ) (new old : A)
       → numberOf answer ≡ firstOf (vectorLengths n (length o) (length cs) values diagonal flags flags) → k ≡ numberOf answer → (k ≡ 0 → ⊥)
       → Ends (vectorChecks n o cs values diagonal flags flags) answer new old old

@@ -1,10 +1,9 @@
 -- What a matrix and flags that fit give to the work on each row.
 -- Assumes nothing.
-use mathlib.Core.Path.{_≡_, refl, sym, ap, _∙_}
+use mathlib.Core.Path.{_≡_}
 use mathlib.Core.List.{List}
-use Prim.Native.Nat.{ℕ, _+_, _-_, _*_, _≤_, _<_}
-use native.Mathlib.Omega.{arith}
-use lib.ListN.{length, getD, take, drop}
+use Prim.Native.Nat.{ℕ, _+_, _-_, _*_, _<_}
+use lib.ListN.{getD, take, drop}
 use Rattle.patterns.specs.Pattern.{rowsOf}
 use Rattle.matrix.specs.Fits.{MatrixFits}
 use Rattle.matrix.proofs.FitLaws.{turn-fits}

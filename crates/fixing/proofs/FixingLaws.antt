@@ -3,16 +3,16 @@
 use mathlib.Core.Path.{_≡_, refl, sym, ap, _∙_}
 use mathlib.Core.List.{List}
 use mathlib.Core.Bool.{Bool, true, false, cond, _||_}
-use Prim.Native.Nat.{ℕ, _+_, _-_, _*_, _/_, _%_, _<_}
+use Prim.Native.Nat.{ℕ, _+_, _-_, _*_, _/_, _%_}
 use lib.Dec.{eqb}
 use lib.IntN.{ℤ}
 use lib.ListN.{length, getD, take, drop}
 use lib.Ieee.{Float, Format, nan}
-use Rattle.blocks.specs.Block.{plusZero, element}
+use Rattle.blocks.specs.Block.{element}
 use Rattle.blocks.specs.Lent.{blockAt, putAt}
 use Rattle.lent.specs.Steps.{Within}
 use Rattle.matrix.proofs.FitLaws.{row-is}
-use Rattle.fixing.specs.Fixing.{isFixed, fixedDiagonal, fixedEntry, fixDiagonalAt, fixEntryAt, fixEntries, fixRow}
+use Rattle.fixing.specs.Fixing.{isFixed, diagonalValue, fixedDiagonal, entryValue, fixedEntry, fixDiagonalAt, fixEntryAt, fixEntries, fixRow}
 use Rattle.fixing.specs.Steps.{fixedIn, given, anyTo}
 use Rattle.fixing.proofs.FlagLaws.{none-at, told-at}
 use Rattle.fixing.proofs.BlockLaws.{row-below, column-below, listed-same, block-same, put-back}
@@ -34,7 +34,7 @@ module _ (f : Format) (n : ℕ) where
   unfolding fixEntryAt
   entry-stays row column e values fits none absent =
       let same : fixedEntry f n row column (blockAt n values e) ≡ blockAt n values e =
-      block-same n (λ r c. cond (row r || column c) (plusZero f) (element n (blockAt n values e) r c)) (λ k. getD values (n * n * e + k) nan)
+      block-same n (λ r c. entryValue f row column r c (element n (blockAt n values e) r c)) (λ k. getD values (n * n * e + k) nan)
       (λ r c a b. rw (none-at row n none r a, none-at column n absent c b)) in
       sym (ap (λ (b : List Float). putAt (n * n * e) b values) same ∙ put-back (n * n) (n * n * e) values fits)
 
@@ -43,7 +43,7 @@ module _ (f : Format) (n : ℕ) where
   unfolding fixDiagonalAt
   diagonal-stays valDia fixed i diagonal fits none =
       let same : fixedDiagonal f n valDia fixed (blockAt n diagonal i) ≡ blockAt n diagonal i =
-      block-same n (λ r c. cond (eqb r c) (cond (fixed r) valDia (element n (blockAt n diagonal i) r c)) (cond (fixed r || fixed c) (plusZero f) (element n (blockAt n diagonal i) r c)))
+      block-same n (λ r c. diagonalValue f valDia fixed r c (element n (blockAt n diagonal i) r c))
       (λ k. getD diagonal (n * n * i + k) nan)
       (λ r c a b. rw (none-at fixed n none r a, none-at fixed n none c b) (either (eqb r c) (element n (blockAt n diagonal i) r c))) in
       sym (ap (λ (b : List Float). putAt (n * n * i) b diagonal) same ∙ put-back (n * n) (n * n * i) diagonal fits)
@@ -70,8 +70,8 @@ module _ (f : Format) (n : ℕ) where
       let q = isFixed n flags j in
       let a = blockAt n values e in
       let same : fixedEntry f n (given (fixedIn n flags i)) (given (fixedIn n flags j)) a ≡ fixedEntry f n p q a =
-      listed-same (n * n) (λ k. cond (given (fixedIn n flags i) (k % n) || given (fixedIn n flags j) (k / n)) (plusZero f) (element n a (k % n) (k / n)))
-      (λ k. cond (p (k % n) || q (k / n)) (plusZero f) (element n a (k % n) (k / n)))
+      listed-same (n * n) (λ k. entryValue f (given (fixedIn n flags i)) (given (fixedIn n flags j)) (k % n) (k / n) (element n a (k % n) (k / n)))
+      (λ k. entryValue f p q (k % n) (k / n) (element n a (k % n) (k / n)))
       (λ k l. rw (told-at p n (k % n) (row-below n k l), told-at q n (k / n) (column-below n k l))) in
       made
       ∙ ap (λ (b : List Float). putAt (n * n * e) b values)
@@ -86,8 +86,8 @@ module _ (f : Format) (n : ℕ) where
       let a = blockAt n diagonal i in
       let same : fixedDiagonal f n valDia told a ≡ fixedDiagonal f n valDia p a =
       listed-same (n * n)
-      (λ k. cond (eqb (k % n) (k / n)) (cond (told (k % n)) valDia (element n a (k % n) (k / n))) (cond (told (k % n) || told (k / n)) (plusZero f) (element n a (k % n) (k / n))))
-      (λ k. cond (eqb (k % n) (k / n)) (cond (p (k % n)) valDia (element n a (k % n) (k / n))) (cond (p (k % n) || p (k / n)) (plusZero f) (element n a (k % n) (k / n))))
+      (λ k. diagonalValue f valDia told (k % n) (k / n) (element n a (k % n) (k / n)))
+      (λ k. diagonalValue f valDia p (k % n) (k / n) (element n a (k % n) (k / n)))
       (λ k l. rw (told-at p n (k % n) (row-below n k l), told-at p n (k / n) (column-below n k l))) in
       made ∙ ap (λ (b : List Float). putAt (n * n * i) b diagonal) (ap (λ (l : List Bool). fixedDiagonal f n valDia (given l) a) here ∙ same)
 

@@ -5,3 +5,5 @@ pub mod BlockLaws
 pub mod FixingLaws
 pub mod FitLaws
 pub mod EndedLaws
+pub mod FixingMeaning
+pub mod Examples

@@ -1,8 +1,8 @@
 -- Document 01's `set_fixed_bc`, at any format f and any N: what fixed values make of the diagonal and of the entries.
 -- Definitions only.
-use mathlib.Core.List.{List, [], _∷_, _++_}
-use mathlib.Core.Bool.{Bool, false, cond, _||_}
-use Prim.Native.Nat.{ℕ, zero, suc, _+_, _*_}
+use mathlib.Core.List.{List}
+use mathlib.Core.Bool.{Bool, cond, _||_}
+use Prim.Native.Nat.{ℕ, _+_, _*_}
 use lib.Dec.{eqb}
 use lib.IntN.{ℤ, pos}
 use lib.ListN.{length, getD}
@@ -17,15 +17,19 @@ use Rattle.vectors.specs.Vectors.{fixes}
 abbrev pub isFixed : ℕ → List ℤ → ℕ → ℕ → Bool
 isFixed n flags i r = fixes (getD flags (n * i + r) (pos 0))
 
--- a diagonal block: value (r, r) becomes valDia if r is fixed, another value +0 if it stands in a fixed row or column, and all else stays
-abbrev pub fixedDiagonal : Format → ℕ → Float → (ℕ → Bool) → List Float → List Float
-fixedDiagonal f n valDia fixed a =
-    blockOf n
-    (λ r c. cond (eqb r c) (cond (fixed r) valDia (element n a r c)) (cond (fixed r || fixed c) (plusZero f) (element n a r c)))
+-- what becomes of value x at (r, c) of a diagonal block: on the diagonal valDia if r is fixed, elsewhere +0 in a fixed row or column; all else stays
+abbrev pub diagonalValue : Format → Float → (ℕ → Bool) → ℕ → ℕ → Float → Float
+diagonalValue f valDia fixed r c x = cond (eqb r c) (cond (fixed r) valDia x) (cond (fixed r || fixed c) (plusZero f) x)
 
--- an entry's block: a value becomes +0 if its row value or its column value is fixed
+abbrev pub fixedDiagonal : Format → ℕ → Float → (ℕ → Bool) → List Float → List Float
+fixedDiagonal f n valDia fixed a = blockOf n (λ r c. diagonalValue f valDia fixed r c (element n a r c))
+
+-- and at (r, c) of an entry's block: +0 if its row value or its column value is fixed
+abbrev pub entryValue : Format → (ℕ → Bool) → (ℕ → Bool) → ℕ → ℕ → Float → Float
+entryValue f row column r c x = cond (row r || column c) (plusZero f) x
+
 abbrev pub fixedEntry : Format → ℕ → (ℕ → Bool) → (ℕ → Bool) → List Float → List Float
-fixedEntry f n row column a = blockOf n (λ r c. cond (row r || column c) (plusZero f) (element n a r c))
+fixedEntry f n row column a = blockOf n (λ r c. entryValue f row column r c (element n a r c))
 
 -- block i of the diagonal, where `fixed` says which values of row i are
 unfoldable pub fixDiagonalAt : Format → ℕ → Float → (ℕ → Bool) → ℕ → List Float → List Float

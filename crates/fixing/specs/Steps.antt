@@ -1,6 +1,5 @@
 -- The flags of a row by value, and what the functions of the crate that check nothing ask of lengths. No public promise cites these.
 -- Definitions only.
-use mathlib.Core.Path.{_≡_}
 use mathlib.Core.List.{List, [], _∷_, _++_}
 use mathlib.Core.Bool.{Bool, false, _||_}
 use Prim.Native.Nat.{ℕ, zero, suc, _+_, _*_, _≤_, _<_}

@@ -83,27 +83,37 @@ fn entry_1(a: [f64; 1], row: [bool; 1], column: [bool; 1]) -> [f64; 1]
 fn entry_2(a: [f64; 4], row: [bool; 2], column: [bool; 2]) -> [f64; 4]
     ensures { λ r. ⌜ r ≡ fixedEntry binary64 2 (given row) (given column) a ⌝ }
 {
+    let r0 = row[0];
+    let r1 = row[1];
+    let c0 = column[0];
+    let c1 = column[1];
     [
-        kept(row[0], column[0], a[0]),
-        kept(row[1], column[0], a[1]),
-        kept(row[0], column[1], a[2]),
-        kept(row[1], column[1], a[3]),
+        kept(r0, c0, a[0]),
+        kept(r1, c0, a[1]),
+        kept(r0, c1, a[2]),
+        kept(r1, c1, a[3]),
     ]
 }
 
 fn entry_3(a: [f64; 9], row: [bool; 3], column: [bool; 3]) -> [f64; 9]
     ensures { λ r. ⌜ r ≡ fixedEntry binary64 3 (given row) (given column) a ⌝ }
 {
+    let r0 = row[0];
+    let r1 = row[1];
+    let r2 = row[2];
+    let c0 = column[0];
+    let c1 = column[1];
+    let c2 = column[2];
     [
-        kept(row[0], column[0], a[0]),
-        kept(row[1], column[0], a[1]),
-        kept(row[2], column[0], a[2]),
-        kept(row[0], column[1], a[3]),
-        kept(row[1], column[1], a[4]),
-        kept(row[2], column[1], a[5]),
-        kept(row[0], column[2], a[6]),
-        kept(row[1], column[2], a[7]),
-        kept(row[2], column[2], a[8]),
+        kept(r0, c0, a[0]),
+        kept(r1, c0, a[1]),
+        kept(r2, c0, a[2]),
+        kept(r0, c1, a[3]),
+        kept(r1, c1, a[4]),
+        kept(r2, c1, a[5]),
+        kept(r0, c2, a[6]),
+        kept(r1, c2, a[7]),
+        kept(r2, c2, a[8]),
     ]
 }
 

@@ -4,3 +4,5 @@ pub mod ShapeLaws
 pub mod OutcomeLaws
 pub mod OperationLaws
 pub mod TimedLaws
+pub mod SumLaws
+pub mod FinishedLaws

@@ -6,6 +6,7 @@ use Prim.Native.Nat.{ℕ, _*_, _≤_}
 use borrow.Author.Tests.{le-ltb, eq-eqb, ne-eqb, ltb-false, eqb-true}
 use lib.Dec.{eqb, ltb}
 use lib.Ieee.{binary64}
+use Rattle.base.proofs.All.{or-left, or-right}
 use Rattle.answers.specs.Limits.{outsideOf}
 use Rattle.lent.specs.Steps.{Dim}
 use Rattle.host.specs.Calls.{wrongBytes, misshapen}
@@ -29,15 +30,6 @@ module _ (op : Operation) (d a b out p q : ℕ) (least : 1 ≤ d) (most : d ≤ 
       or-none : (t : Bool) → t ≡ t || false
       or-none true = refl
       or-none false = refl
-
-or-left : (a b : Bool) → a || b ≡ false → a ≡ false
-or-left true b e = e
-or-left false b e = refl
-
-or-right : (a b : Bool) → a || b ≡ false → b ≡ false
-or-right true true e = e
-or-right true false e = refl
-or-right false b e = e
 
 -- an N that is not out of range
 pub dim-of : (d : ℕ) → outsideOf 1 3 d ≡ false → Dim d

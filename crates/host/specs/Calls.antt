@@ -8,6 +8,7 @@ use lib.Dec.{eqb}
 use lib.Ieee.{Float, Format}
 use Rattle.answers.specs.Checks.{Check, firstOf, _when_}
 use Rattle.answers.specs.Limits.{outsideOf}
+use Rattle.answers.specs.Promise.{after}
 use Rattle.wire.specs.Bytes.{bytesEach, bytesOf}
 use Rattle.host.specs.declared.Outcome.{Outcome}
 
@@ -35,3 +36,8 @@ pub record Answered (f : Format) (dim : ℕ) (lent : List Lent) (later : List Ch
 pub record Checked (checks : List Check) (outcome : Outcome) : Type 0 where
   pub number : outcome .number ≡ firstOf checks
   pub row : outcome .row ≡ 0
+
+-- What an entry point promises whose call is done or changes nothing: the number of the first check that holds, and what is lent as that says.
+pub record Finished {A : Type 0} (checks : List Check) (number : ℕ) (new old left : A) : Type 0 where
+  pub first : number ≡ firstOf checks
+  pub lent : left ≡ after checks new old

@@ -1,6 +1,14 @@
 // The entry points for a host: every call of the crates below, on numbers and lent byte slices, with N as a number.
-// A value is 8 bytes, the low byte first. A call whose slices are not of the length that it has at N answers 2 and changes nothing.
+// A value is 8 bytes, an index or a flag 4, the low byte first. Bytes that are not those of the words that a call has at N are 2, and nothing has changed.
+pub mod element_calls;
+pub mod matrix_calls;
+pub mod pattern_calls;
 pub mod timed;
+pub mod timed_elements;
+pub mod timed_matrix;
+pub mod timed_vectors;
+pub mod unchecked;
+pub mod vector_calls;
 
 use answers::Answer;
 use lent::unchecked::add_each;
@@ -32,6 +40,14 @@ ghost use Rattle.host.specs.Operations.{firstCount, secondCount, resultO
 pub struct Outcome {
     pub number: u32,
     pub row: u32,
+}
+
+// What the entry point of a dot product answers: an outcome, and the sum, which is +0.0 if the call is refused.
+#[repr(C)]
+pub struct Summed {
+    pub number: u32,
+    pub row: u32,
+    pub sum: f64,
 }
 
 // The operations of the entry points that work on bytes, so that all of them share one way from bytes to bytes.

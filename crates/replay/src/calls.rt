@@ -1,5 +1,5 @@
-// The calls of the list, in the list's order, each run through its entry point and compared word for word.
-// To add a call: its name in is_named and print_name, its words in shape_of, its entry point in run.
+// The calls of the list, in the list's order, each run through its entry point and compared word for word: first those on blocks and numbers.
+// The calls on slices of any length are run by the crate `plate_lines`; their numbers come after those here.
 ghost use Prim.Native.Nat.{_+_, _*_, _≤_};
 use crate::case::Case;
 use check::same;
@@ -8,7 +8,10 @@ use wire::unchecked::read_word;
 use wire::unchecked::write_word;
 
 // How many calls the list has; a name that is none has this number.
-pub const CALLS: usize = 10;
+pub const CALLS: usize = 27;
+
+// How many of them are run here.
+const BLOCK_CALLS: usize = 10;
 
 fn is_named(call: usize, name: &[u8]) -> bool {
     match call {
@@ -27,16 +30,16 @@ fn is_named(call: usize, name: &[u8]) -> bool {
 
 pub fn index_of(name: &[u8]) -> usize {
     let mut i = 0;
-    while i < CALLS {
+    while i < BLOCK_CALLS {
         if is_named(i, name) {
             return i;
         }
         i += 1;
     }
-    i
+    BLOCK_CALLS + plate_lines::index_of(name)
 }
 
-pub fn print_name(call: usize) {
+fn print_block_call(call: usize) {
     match call {
         0 => io::write_all(1, b"check_vector"),
         1 => io::write_all(1, b"apply"),
@@ -50,6 +53,37 @@ pub fn print_name(call: usize) {
         _ => io::write_all(1, b"square_root"),
     }
     ;
+}
+
+fn print_plate_call(call: usize) {
+    match call {
+        0 => io::write_all(1, b"set_zero"),
+        1 => io::write_all(1, b"copy"),
+        2 => io::write_all(1, b"add_scaled_vector"),
+        3 => io::write_all(1, b"scale_and_add_vec"),
+        4 => io::write_all(1, b"set_fixed"),
+        5 => io::write_all(1, b"set_fix_dof_to_rhs_vector"),
+        6 => io::write_all(1, b"dot"),
+        7 => io::write_all(1, b"check_pattern"),
+        8 => io::write_all(1, b"check_entries"),
+        9 => io::write_all(1, b"check_factor"),
+        10 => io::write_all(1, b"sort_row"),
+        11 => io::write_all(1, b"mult_vec"),
+        12 => io::write_all(1, b"matrix_set_zero"),
+        13 => io::write_all(1, b"set_fixed_bc"),
+        14 => io::write_all(1, b"merge"),
+        15 => io::write_all(1, b"csrdia"),
+        _ => io::write_all(1, b"blkcsr"),
+    }
+    ;
+}
+
+pub fn print_name(call: usize) {
+    if call < BLOCK_CALLS {
+        print_block_call(call);
+    } else {
+        print_plate_call(call - BLOCK_CALLS);
+    }
 }
 
 // How many words a call's two inputs and its output have.
@@ -104,17 +138,20 @@ fn shape_of(call: usize, dim: u32) -> Shape
 }
 
 // Whether a line of the call has so many words: its inputs, the number, the row and its output.
-pub fn fits(call: usize, dim: u32, count: usize) -> bool {
-    let s = shape_of(call, dim);
+pub fn fits(call: usize, dim: u32, words: [u64; 128], count: usize) -> bool {
     if call >= CALLS {
         return false;
     }
+    if call >= BLOCK_CALLS {
+        return count == plate_lines::length::words_of(call - BLOCK_CALLS, words);
+    }
+    let s = shape_of(call, dim);
     count == s.first + s.second + 2 + s.out
 }
 
 // Words as the bytes that an entry point is lent.
-fn bytes_from(words: [u64; 29], from: usize, count: usize) -> [u8; 72]
-    requires { ⌜ (from + count ≤ 29) × (count ≤ 9) ⌝ }
+fn bytes_from(words: [u64; 128], from: usize, count: usize) -> [u8; 72]
+    requires { ⌜ (from + count ≤ 128) × (count ≤ 9) ⌝ }
 {
     let mut bytes = [0u8; 72];
     let mut k = 0;
@@ -165,8 +202,8 @@ fn run(call: usize, dim: u32, a: &[u8], b: &[u8], out: &mut [u8]) -> Outcome {
 }
 
 // Whether the first `count` words of the bytes are those from a place on.
-fn same_words(bytes: &[u8; 72], words: [u64; 29], from: usize, count: usize) -> bool
-    requires { ⌜ (from + count ≤ 29) × (count ≤ 9) ⌝ }
+fn same_words(bytes: &[u8; 72], words: [u64; 128], from: usize, count: usize) -> bool
+    requires { ⌜ (from + count ≤ 128) × (count ≤ 9) ⌝ }
 {
     let mut k = 0;
     while k < count {
@@ -179,7 +216,7 @@ fn same_words(bytes: &[u8; 72], words: [u64; 29], from: usize, count: usize) -> 
 }
 
 // Whether the call answers as the original: the number, the row and every word of the output, which is dirty before.
-pub fn agrees(case: Case) -> bool {
+fn block_call_agrees(case: Case) -> bool {
     let s = shape_of(case.call, case.dim);
     let first = s.first;
     let second = s.second;
@@ -206,4 +243,14 @@ pub fn agrees(case: Case) -> bool {
         return false;
     }
     same_words(&out, words, at + 2, count)
+}
+
+pub fn agrees(case: Case) -> bool {
+    let call = case.call;
+    let dim = case.dim;
+    let words = case.words;
+    if call < BLOCK_CALLS {
+        return block_call_agrees(case);
+    }
+    plate_lines::agrees(call - BLOCK_CALLS, dim, words)
 }

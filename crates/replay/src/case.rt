@@ -8,12 +8,12 @@ use crate::calls::index_of;
 use words::first_of;
 use words::unchecked::hex_at;
 
-// A line has at most 29 words: two blocks of nine, the number, its row, and a block.
+// A line has at most 128 words.
 pub struct Case {
     pub good: bool,
     pub call: usize,
     pub dim: u32,
-    pub words: [u64; 29],
+    pub words: [u64; 128],
 }
 
 fn malformed() -> Case {
@@ -21,15 +21,15 @@ fn malformed() -> Case {
         good: false,
         call: 0,
         dim: 0,
-        words: [0u64; 29],
+        words: [0u64; 128],
     }
 }
 
-// The words of a text that has `count` of them, after the call and N.
+// The words of a text that has `count` of them, after the call and N: as many as a line of that call has.
 fn words_of(call: usize, dim: u32, text: &[u8], count: usize) -> Case
-    requires { ⌜ (length (now text) ≡ 17 * count) × (count ≤ 29) ⌝ }
+    requires { ⌜ (length (now text) ≡ 17 * count) × (count ≤ 128) ⌝ }
 {
-    let mut words = [0u64; 29];
+    let mut words = [0u64; 128];
     let mut i = 0;
     while i < count {
         if text[17 * i] != b' ' {
@@ -42,6 +42,9 @@ fn words_of(call: usize, dim: u32, text: &[u8], count: usize) -> Case
         words[i] = word.value;
         i += 1;
     }
+    if !fits(call, dim, words, count) {
+        return malformed();
+    }
     Case {
         good: true,
         call,
@@ -50,16 +53,13 @@ fn words_of(call: usize, dim: u32, text: &[u8], count: usize) -> Case
     }
 }
 
-// The case of a call and N, if the text has as many words as that call.
+// The case of a call and N, if the text is words.
 fn case_of(call: usize, dim: u32, text: &[u8]) -> Case {
     let count = text.len() / 17;
     if text.len() != 17 * count {
         return malformed();
     }
-    if count > 29 {
-        return malformed();
-    }
-    if !fits(call, dim, count) {
+    if count > 128 {
         return malformed();
     }
     words_of(call, dim, text, count)

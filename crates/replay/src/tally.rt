@@ -5,17 +5,17 @@ use crate::calls::CALLS;
 use crate::calls::print_name;
 
 pub struct Tally {
-    cases: [u64; 10],
-    wrong: [u64; 10],
+    cases: [u64; 27],
+    wrong: [u64; 27],
     malformed: u64,
     first_wrong: u64,
     first_malformed: u64,
 }
 
 // The counts with one more at a call, if there is such a call.
-fn one_more(counts: [u64; 10], call: usize) -> [u64; 10] {
+fn one_more(counts: [u64; 27], call: usize) -> [u64; 27] {
     let mut more = counts;
-    if call < 10 {
+    if call < 27 {
         more[call] = std::num::wrapping_add_u64(more[call], 1);
     }
     more
@@ -29,8 +29,8 @@ fn first_of_both(kept: u64, number: u64) -> u64 {
 impl Tally {
     pub fn new() -> Self {
         Tally {
-            cases: [0u64; 10],
-            wrong: [0u64; 10],
+            cases: [0u64; 27],
+            wrong: [0u64; 27],
             malformed: 0,
             first_wrong: 0,
             first_malformed: 0,

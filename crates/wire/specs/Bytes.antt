@@ -1,6 +1,6 @@
--- Values as bytes, at any format f: a value is the bytes of its bits, the low byte first, and the values stand one after the other.
+-- Words as bytes, the low byte first and the words one after the other; and values as bytes, at any format f: a value is the word of its bits.
 -- Definitions only.
-use mathlib.Core.List.{List, [], _∷_, _++_}
+use mathlib.Core.List.{List, [], _∷_, _++_, map}
 use mathlib.Core.Bool.{Bool, true, _&&_}
 use Prim.Native.Nat.{ℕ, zero, suc, _+_, _*_, _/_, _%_}
 use lib.ListN.{length, take, drop}
@@ -21,23 +21,27 @@ unfoldable pub wordOf : List ℕ → ℕ
 wordOf [] = 0
 wordOf (byte ∷ bytes) = byte + 256 * wordOf bytes
 
+-- the bytes of words, k to a word
+unfoldable pub bytesOfWords : ℕ → List ℕ → List ℕ
+bytesOfWords k [] = []
+bytesOfWords k (word ∷ words) = bytesOfWord k word ++ bytesOfWords k words
+
+-- the first n words of bytes, k bytes to a word
+unfoldable pub wordsTo : ℕ → ℕ → List ℕ → List ℕ
+wordsTo k zero bytes = []
+wordsTo k (suc n) bytes = wordOf (take k bytes) ∷ wordsTo k n (drop k bytes)
+
+-- the words of bytes, as many as are whole
+unfoldable pub wordsIn : ℕ → List ℕ → List ℕ
+wordsIn k bytes = wordsTo k (length bytes / k) bytes
+
 -- the bytes of values; of a NaN those of one fixed pattern
 unfoldable pub bytesOf : Format → List Float → List ℕ
-bytesOf f [] = []
-bytesOf f (v ∷ values) = bytesOfWord (bytesEach f) (toBits f v) ++ bytesOf f values
+bytesOf f values = bytesOfWords (bytesEach f) (map (toBits f) values)
 
--- the value that the first bytes stand for; any NaN's pattern is a NaN
-unfoldable pub valueIn : Format → List ℕ → Float
-valueIn f bytes = ofBits f (wordOf (take (bytesEach f) bytes))
-
--- the first n values of bytes
-unfoldable pub valuesTo : Format → ℕ → List ℕ → List Float
-valuesTo f zero bytes = []
-valuesTo f (suc n) bytes = valueIn f bytes ∷ valuesTo f n (drop (bytesEach f) bytes)
-
--- the values of bytes, as many as are whole
+-- the values of bytes; any NaN's pattern is a NaN
 unfoldable pub valuesIn : Format → List ℕ → List Float
-valuesIn f bytes = valuesTo f (length bytes / bytesEach f) bytes
+valuesIn f bytes = map (ofBits f) (wordsIn (bytesEach f) bytes)
 
 -- every value is one of the format
 unfoldable pub allFit : Format → List Float → Bool

@@ -7,9 +7,32 @@ use std::hint::black_box;
 use std::ops::Range;
 use std::time::{Duration, Instant, SystemTime, UNIX_EPOCH};
 
-use comparison::groups::timed::{Timed, TIMED};
 use comparison::random::Random;
+use comparison::stack;
+use comparison::timed::blocks::BLOCKS;
+use comparison::timed::plates::PLATES;
+use comparison::timed::{ordinary, Inputs, Side, Timed};
 use comparison::words;
+
+/// The calls of one pair of tables, and what its columns and its times are.
+struct Section {
+    calls: &'static [Timed],
+    columns: &'static str,
+    times: &'static str,
+}
+
+const SECTIONS: [Section; 2] = [
+    Section {
+        calls: BLOCKS,
+        columns: "by count of blocks (values for the root)",
+        times: "Nanoseconds for a block (a value for the root)",
+    },
+    Section {
+        calls: PLATES,
+        columns: "by rows of a vector or of a square plate whose nodes have 8 neighbours",
+        times: "Nanoseconds for a row (for an element of merge)",
+    },
+];
 
 const SIZES: [usize; 4] = [64, 256, 1024, 4096];
 
@@ -22,7 +45,7 @@ const RUNS: usize = 41;
 const ROUNDS: usize = 7;
 const ROUNDS_VARIABLE: &str = "BENCH_ROUNDS";
 
-/// A run repeats its call until the faster side takes about this long.
+/// A run repeats its call until it takes about this long.
 const RUN_TIME: Duration = Duration::from_micros(100);
 
 const SEED: u64 = 1;
@@ -32,21 +55,85 @@ const SEED: u64 = 1;
 /// happen to meet; so each round has another place, and the median is over all of them.
 const APART: usize = 72;
 
-/// One call at one N and one size, with its buffers and the seconds of its runs.
+/// What a call reads and writes at one N and one size.
+struct Buffers {
+    dim: usize,
+    inputs: Inputs,
+    /// What is written, and room in front of it.
+    out: Vec<f64>,
+    length: usize,
+    apart: usize,
+}
+
+impl Buffers {
+    /// Where the output lies in this round.
+    fn place(&self) -> Range<usize> {
+        self.apart..self.apart + self.length
+    }
+
+    /// Seconds of one call, over `repeats` calls.
+    fn seconds(&mut self, side: Side, repeats: usize) -> f64 {
+        let start = Instant::now();
+        for _ in 0..repeats {
+            let at = self.place();
+            side(
+                self.dim,
+                black_box(&mut self.inputs),
+                black_box(&mut self.out[at]),
+            );
+            black_box(&mut self.out);
+        }
+        start.elapsed().as_secs_f64() / repeats as f64
+    }
+
+    /// The words that a side writes, on buffers as they are; they are then as before.
+    fn words_by(&mut self, side: Side) -> Vec<u64> {
+        let (at, before) = (self.place(), self.out.clone());
+        side(self.dim, &mut self.inputs, &mut self.out[at]);
+        let words = words::words_of(&self.out);
+        self.out = before;
+        words
+    }
+}
+
+/// The runs of one side.
+struct Runs {
+    side: Side,
+    repeats: usize,
+    seconds: Vec<f64>,
+}
+
+impl Runs {
+    fn new(side: Side, buffers: &mut Buffers) -> Runs {
+        let mut repeats = 1;
+        while buffers.seconds(side, repeats) * (repeats as f64) < RUN_TIME.as_secs_f64() {
+            repeats *= 2;
+        }
+        Runs {
+            side,
+            repeats,
+            seconds: Vec::new(),
+        }
+    }
+
+    fn warm(&self, buffers: &mut Buffers) {
+        buffers.seconds(self.side, self.repeats);
+    }
+
+    fn run(&mut self, buffers: &mut Buffers) {
+        self.seconds.push(buffers.seconds(self.side, self.repeats));
+    }
+}
+
+/// One call at one N and one size, with both sides.
 struct Row {
     timed: &'static Timed,
     dim: usize,
     size: usize,
-    inputs: Vec<Vec<f64>>,
-    /// The output, and room in front of it.
-    out: Vec<f64>,
-    apart: usize,
-    repeats: usize,
-    port: Vec<f64>,
-    rust: Vec<f64>,
+    buffers: Buffers,
+    port: Runs,
+    rust: Option<Runs>,
 }
-
-type Side = fn(usize, &[Vec<f64>], &mut [f64]);
 
 impl Row {
     fn new(
@@ -56,104 +143,62 @@ impl Row {
         rounds: usize,
         random: &mut Random,
     ) -> Row {
-        let inputs = (timed.inputs)(dim, size, random);
-        let out = vec![0.0; APART * rounds + size * (timed.output)(dim)];
-        let mut row = Row {
+        let length = (timed.output)(dim, size);
+        let mut buffers = Buffers {
+            dim,
+            inputs: (timed.inputs)(dim, size, random),
+            out: ordinary(APART * rounds + length, random),
+            length,
+            apart: APART,
+        };
+        // Both sides have to do the same work: they give the same words.
+        let expected = timed.rust.map(|rust| buffers.words_by(rust));
+        let got = buffers.words_by(timed.port);
+        assert!(
+            expected.is_none_or(|expected| expected == got),
+            "{}, N = {dim}: the sides differ",
+            timed.name
+        );
+        Row {
             timed,
             dim,
             size,
-            inputs,
-            out,
-            apart: APART,
-            repeats: 1,
-            port: Vec::new(),
-            rust: Vec::new(),
-        };
-        row.check();
-        row.set_repeats();
-        row
-    }
-
-    /// Where the output lies in this round.
-    fn place(&self) -> Range<usize> {
-        self.apart..self.apart + self.size * (self.timed.output)(self.dim)
-    }
-
-    /// Both sides have to do the same work: they give the same words.
-    fn check(&mut self) {
-        let at = self.place();
-        (self.timed.rust)(self.dim, &self.inputs, &mut self.out[at.clone()]);
-        let expected = words::words_of(&self.out);
-        self.out.fill(0.0);
-        (self.timed.port)(self.dim, &self.inputs, &mut self.out[at.clone()]);
-        let name = self.timed.name;
-        assert!(
-            words::words_of(&self.out) == expected,
-            "{name}, N = {}: the sides differ",
-            self.dim
-        );
-    }
-
-    fn set_repeats(&mut self) {
-        loop {
-            let fastest = self.run(self.timed.port).min(self.run(self.timed.rust));
-            if fastest * self.repeats as f64 >= RUN_TIME.as_secs_f64() {
-                return;
-            }
-            self.repeats *= 2;
+            port: Runs::new(timed.port, &mut buffers),
+            rust: timed.rust.map(|rust| Runs::new(rust, &mut buffers)),
+            buffers,
         }
-    }
-
-    /// Seconds of one call, over `repeats` calls.
-    fn run(&mut self, side: Side) -> f64 {
-        let start = Instant::now();
-        for _ in 0..self.repeats {
-            let at = self.place();
-            side(
-                self.dim,
-                black_box(&self.inputs),
-                black_box(&mut self.out[at]),
-            );
-            black_box(&mut self.out);
-        }
-        start.elapsed().as_secs_f64() / self.repeats as f64
     }
 
     /// One round: a run of each side for warmth, then runs that take turns, and turns at being first.
     fn round(&mut self, round: usize) {
-        self.apart = APART * round;
-        self.run(self.timed.port);
-        self.run(self.timed.rust);
+        let buffers = &mut self.buffers;
+        buffers.apart = APART * round;
+        self.port.warm(buffers);
+        let Some(rust) = &mut self.rust else {
+            (0..RUNS).for_each(|_| self.port.run(buffers));
+            return;
+        };
+        rust.warm(buffers);
         for turn in 0..RUNS {
             if turn % 2 == 0 {
-                self.run_port();
-                self.run_rust();
+                self.port.run(buffers);
+                rust.run(buffers);
             } else {
-                self.run_rust();
-                self.run_port();
+                rust.run(buffers);
+                self.port.run(buffers);
             }
         }
     }
-
-    fn run_port(&mut self) {
-        let seconds = self.run(self.timed.port);
-        self.port.push(seconds);
-    }
-
-    fn run_rust(&mut self) {
-        let seconds = self.run(self.timed.rust);
-        self.rust.push(seconds);
-    }
 }
 
-/// Medians of a row, in seconds for the whole call.
+/// Medians of a row, in seconds for the whole call; none for the original where it has no such call.
 struct Medians {
     port: f64,
-    rust: f64,
+    rust: Option<f64>,
 }
 
-fn median(seconds: &[f64]) -> f64 {
-    let mut sorted = seconds.to_vec();
+fn median(runs: &Runs) -> f64 {
+    let mut sorted = runs.seconds.clone();
     sorted.sort_by(f64::total_cmp);
     sorted[sorted.len() / 2]
 }
@@ -169,37 +214,52 @@ fn rounds() -> usize {
 }
 
 fn main() {
+    stack::with_room(measure);
+}
+
+fn measure() {
     let random = &mut Random::new(SEED);
     let rounds = rounds();
+    let mut sections = SECTIONS.map(|section| rows(&section, rounds, random));
+    for round in 1..=rounds {
+        for row in sections.iter_mut().flatten() {
+            eprint!(
+                "\rround {round} of {rounds}: {}, N = {}, size {}          ",
+                row.timed.name, row.dim, row.size
+            );
+            row.round(round);
+        }
+    }
+    eprintln!();
+    println!("Date: {}. Processor: {}.", today(), processor());
+    println!(
+        "Medians of {} runs of each side, interleaved.",
+        rounds * RUNS
+    );
+    for (section, rows) in SECTIONS.iter().zip(&sections) {
+        print_tables(section, rows);
+    }
+}
+
+/// Every call of a section at every N and size.
+fn rows(section: &Section, rounds: usize, random: &mut Random) -> Vec<Row> {
     let mut rows = Vec::new();
-    for timed in TIMED {
+    for timed in section.calls {
         for &dim in timed.dims {
             for size in SIZES {
                 rows.push(Row::new(timed, dim, size, rounds, random));
             }
         }
     }
-    for round in 1..=rounds {
-        for row in &mut rows {
-            eprint!(
-                "\rround {round} of {rounds}: {}, N = {}, {} {}      ",
-                row.timed.name, row.dim, row.size, row.timed.unit
-            );
-            row.round(round);
-        }
-    }
-    eprintln!();
-    print_tables(&rows, rounds);
+    rows
 }
 
-fn print_tables(rows: &[Row], rounds: usize) {
-    println!("Date: {}. Processor: {}.", today(), processor());
-    println!(
-        "Medians of {} runs of each side, interleaved.",
-        rounds * RUNS
-    );
+fn print_tables(section: &Section, rows: &[Row]) {
     println!();
-    println!("Time of the port / time of the Rust, by count of blocks (values for the root), and growth: the time at 4,096 over the time at 256, 16 where it is linear.");
+    println!(
+        "Time of the port / time of the Rust, {}, and growth: the time at 4,096 over the time at 256, 16 where it is linear.",
+        section.columns
+    );
     println!();
     println!("| call | N | 64 | 256 | 1,024 | 4,096 | growth, port | growth, Rust |");
     println!("|---|---|---|---|---|---|---|---|");
@@ -207,7 +267,7 @@ fn print_tables(rows: &[Row], rounds: usize) {
         print_ratios(sizes);
     }
     println!();
-    println!("Nanoseconds for a block (a value for the root), port / Rust:");
+    println!("{}, port / Rust:", section.times);
     println!();
     println!("| call | N | 64 | 256 | 1,024 | 4,096 |");
     println!("|---|---|---|---|---|---|");
@@ -219,7 +279,7 @@ fn print_tables(rows: &[Row], rounds: usize) {
 fn medians(sizes: &[Row]) -> Vec<Medians> {
     let each = |row: &Row| Medians {
         port: median(&row.port),
-        rust: median(&row.rust),
+        rust: row.rust.as_ref().map(median),
     };
     sizes.iter().map(each).collect()
 }
@@ -234,19 +294,25 @@ fn name(row: &Row) -> String {
     }
 }
 
+/// A number with so many decimals, or a dash.
+fn shown(number: Option<f64>, decimals: usize) -> String {
+    number.map_or("-".to_string(), |number| format!("{number:.decimals$}"))
+}
+
 fn print_ratios(sizes: &[Row]) {
     let medians = medians(sizes);
     let ratios: Vec<String> = medians
         .iter()
-        .map(|m| format!("{:.2}", m.port / m.rust))
+        .map(|m| shown(m.rust.map(|rust| m.port / rust), 2))
         .collect();
     let (small, large) = (&medians[GROWTH.0], &medians[GROWTH.1]);
+    let rust = large.rust.zip(small.rust);
     println!(
-        "| {} | {} | {:.1} | {:.1} |",
+        "| {} | {} | {:.1} | {} |",
         name(&sizes[0]),
         ratios.join(" | "),
         large.port / small.port,
-        large.rust / small.rust
+        shown(rust.map(|(large, small)| large / small), 1)
     );
 }
 
@@ -255,8 +321,9 @@ fn print_times(sizes: &[Row]) {
         .iter()
         .zip(sizes)
         .map(|(m, row)| {
-            let each = 1e9 / row.size as f64;
-            format!("{:.2} / {:.2}", m.port * each, m.rust * each)
+            let each = 1e9 / (row.timed.units)(row.size) as f64;
+            let rust = m.rust.map(|rust| rust * each);
+            format!("{:.2} / {}", m.port * each, shown(rust, 2))
         })
         .collect();
     println!("| {} | {} |", name(&sizes[0]), times.join(" | "));

@@ -17,6 +17,10 @@ fn header(count: usize) -> Vec<String> {
         "inputs in order, then the number that it answers, then that number's row, then its outputs.".into(),
         "A value is the 64 bits of a double. A NaN comes in as any pattern; an output that is a NaN is".into(),
         "7FF8000000000000, and there any NaN is right. After number 9 the output is the block as given.".into(),
+        "An index or a flag is a word too: its 32 bits, with zeros above. Calls with `counts of` begin with".into(),
+        "a word for each slice that they are lent: how many words it has. Then come their numbers and slices".into(),
+        "in order, also those that are only written, as they stood before. The outputs are the slices that".into(),
+        "are written, as they stand after the call: after a refusal as before it, and a sum is then 0.".into(),
         String::new(),
         "Calls, with their inputs; and their outputs:".into(),
     ];

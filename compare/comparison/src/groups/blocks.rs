@@ -148,7 +148,7 @@ fn about() -> Vec<String> {
     CALLS.iter().map(ByteCall::about).collect()
 }
 
-fn input_words(name: &str, dim: usize) -> Option<usize> {
+fn input_words(name: &str, dim: usize, _: &[u64]) -> Option<usize> {
     named(name).map(|call| call.input_words(dim))
 }
 

@@ -16,7 +16,7 @@ pub const GROUP: Group = Group {
     compare,
     sample,
     about: || vec![ABOUT.to_string()],
-    input_words: |name, _| (name == NAME).then_some(2),
+    input_words: |name, _, _| (name == NAME).then_some(2),
     replay,
 };
 

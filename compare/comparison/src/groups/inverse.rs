@@ -18,7 +18,7 @@ pub const GROUP: Group = Group {
     compare,
     sample: |seed| CALL.sample(seed),
     about: || vec![CALL.about()],
-    input_words: |name, dim| (name == CALL.name).then(|| CALL.input_words(dim)),
+    input_words: |name, dim, _| (name == CALL.name).then(|| CALL.input_words(dim)),
     replay: |line: &Line| CALL.replay(line),
 };
 

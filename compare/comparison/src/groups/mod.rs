@@ -3,9 +3,13 @@
 
 pub mod blocks;
 pub mod checks;
+pub mod elements;
 pub mod inverse;
+pub mod matrix;
+pub mod patterns;
 pub mod root;
 pub mod timed;
+pub mod vectors;
 
 use crate::list::Line;
 use crate::settings::Settings;
@@ -18,8 +22,9 @@ pub struct Group {
     pub sample: fn(u64) -> Vec<Line>,
     /// For each call what the words of its lines are.
     pub about: fn() -> Vec<String>,
-    /// How many input words a line of a call has at an N; None if the call is not of this group.
-    pub input_words: fn(&str, usize) -> Option<usize>,
+    /// How many of a line's words are inputs, by its call, its N and the words; None if the call is not of
+    /// this group.
+    pub input_words: fn(&str, usize, &[u64]) -> Option<usize>,
     /// Calls the port on a line and gives the line that it makes.
     pub replay: fn(&Line) -> Line,
 }
@@ -30,4 +35,8 @@ pub const ALL: &[Group] = &[
     inverse::GROUP,
     root::GROUP,
     timed::GROUP,
+    vectors::GROUP,
+    patterns::GROUP,
+    matrix::GROUP,
+    elements::GROUP,
 ];

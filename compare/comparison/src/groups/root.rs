@@ -14,7 +14,7 @@ pub const GROUP: Group = Group {
     compare,
     sample,
     about: || vec![ABOUT.to_string()],
-    input_words: |name, _| (name == NAME).then_some(1),
+    input_words: |name, _, _| (name == NAME).then_some(1),
     replay,
 };
 

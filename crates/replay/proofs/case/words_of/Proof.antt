@@ -8,7 +8,7 @@ use Rattle.replay.proofs.case.words_of.Statement.{statement}
 use Rattle.replay.proofs.case.words_of.Tie as tie
 
 abbrev Inv-loop : tie.InvT-loop
-Inv-loop call dim text count words₀ i₀ words i = (i ≤ count) × (length words ≡ 29)
+Inv-loop call dim text count words₀ i₀ words i = (i ≤ count) × (length words ≡ 128)
 
 abbrev μ-loop : tie.MeasureT-loop
 μ-loop call dim text count words₀ i₀ words i = count - i
@@ -17,4 +17,5 @@ pub words-of-spec : {M : Type 1} → statement M
 words-of-spec =
     tie.close (tie.spec Inv-loop μ-loop (λ c. search needs) (λ c. search needs) (λ c. search needs) (λ c κs. search needs) (λ c. search needs)
     (λ c. search needs) (λ c. search needs) (λ c κs. search needs) (λ c κs. search needs) (λ c. search needs) (λ c. search needs)
-    (λ c. search needs) (λ c. search needs) (λ c. search needs) (λ c. search needs) (λ c. search needs))
+    (λ c. search needs) (λ c. search needs) (λ c. search needs) (λ c. search needs) (λ c κs. search needs) (λ c κs. search needs)
+    (λ c. search needs) (λ c. search needs))

@@ -6,10 +6,10 @@ use Rattle.replay.proofs.tally.report.Statement.{statement}
 use Rattle.replay.proofs.tally.report.Tie as tie
 
 abbrev Inv-loop : tie.InvT-loop
-Inv-loop t cases wrong call₀ t5 t6 t7 call = call ≤ 10
+Inv-loop t cases wrong call₀ t5 t6 t7 call = call ≤ 27
 
 abbrev μ-loop : tie.MeasureT-loop
-μ-loop t cases wrong call₀ t5 t6 t7 call = 10 - call
+μ-loop t cases wrong call₀ t5 t6 t7 call = 27 - call
 
 pub report-spec : {M : Type 1} → statement M
 report-spec =

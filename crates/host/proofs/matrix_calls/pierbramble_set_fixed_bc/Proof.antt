@@ -1,0 +1,13 @@
+-- `matrix_calls::pierbramble_set_fixed_bc` meets its promise: the end of the call, without a row.
+-- Assumes nothing.
+use borrow.Author.Needs.{needs}
+use Rattle.host.proofs.FinishedLaws.{finished-call}
+use Rattle.host.proofs.matrix_calls.pierbramble_set_fixed_bc.Statement.{statement}
+use Rattle.host.proofs.matrix_calls.pierbramble_set_fixed_bc.Tie as tie
+
+returns : tie.Need-returns
+returns c = (finished-call _ _ _ _ _ _ (c .before .before .before .before .before .set-fixed-bc .ensures) (c .rowless .ensures .0), c .rowless .ensures .1)
+
+pub pierbramble-set-fixed-bc-spec : {M : Type 1} → statement M
+pierbramble-set-fixed-bc-spec =
+    tie.close (tie.spec (λ c κs. search needs) (λ c κs. search needs) (λ c. search needs) (λ c. search needs) returns)

@@ -1,0 +1,39 @@
+-- `check_matrix_bytes` meets its promise: the bytes refuse it, or the words decide.
+-- Assumes nothing.
+use mathlib.Core.Path.{_≡_, refl, sym, _∙_}
+use Prim.Native.Nat.{_/_}
+use borrow.Author.Needs.{needs}
+use Rattle.answers.specs.Checks.{firstOf}
+use Rattle.answers.proofs.EndLaws.{none-of-zero, refused-earlier, left-to-later}
+use Rattle.pattern_bytes.specs.Checks.{byteChecks}
+use Rattle.matrix.specs.Checks.{matrixLengths}
+use Rattle.matrix_bytes.specs.Checks.{misshapen}
+use Rattle.matrix_bytes.proofs.CheckLaws.{dim-of, range-of, formed-of}
+use Rattle.matrix_bytes.proofs.check_matrix_bytes.Statement.{statement}
+use Rattle.matrix_bytes.proofs.check_matrix_bytes.Tie as tie
+
+returns : tie.Need-returns
+returns c =
+    let a = c .before .before .before .before .args in
+    let first = rw (c .before .before .before .is-misshapen .ensures) at (c .before .before .check-bytes .ensures) in
+    first ∙ sym (refused-earlier (byteChecks (a .offsets) (a .columns) (misshapen (a .dim) (a .offsets) (a .columns) (a .values) (a .diagonal)))
+    (matrixLengths (a .dim) (a .offsets / 4) (a .columns / 4) (a .values / 8) (a .diagonal / 8)) (λ z. c .if1 .taken (c .before .number .ensures ∙ first ∙ z)))
+
+-- past the test the bytes are well formed
+passed : (c : tie.Else1) → let a = c .before .before .before .before .args in firstOf (byteChecks (a .offsets) (a .columns) (misshapen (a .dim) (a .offsets) (a .columns) (a .values) (a .diagonal))) ≡ 0
+passed c = sym (rw (c .before .before .before .is-misshapen .ensures) at (c .before .before .check-bytes .ensures)) ∙ sym (c .before .number .ensures) ∙ c .if1 .left
+
+check-matrix-requires : tie.Need-check-matrix-requires
+check-matrix-requires c κs =
+    let a = c .before .before .before .before .args in
+    dim-of (a .dim) (range-of (a .dim) (a .offsets) (a .columns) (a .values) (a .diagonal) (formed-of (a .offsets) (a .columns) _ (passed c)))
+
+returns-2 : tie.Need-returns-2
+returns-2 c =
+    let a = c .before .before .before .before .before .args in
+    let earlier = byteChecks (a .offsets) (a .columns) (misshapen (a .dim) (a .offsets) (a .columns) (a .values) (a .diagonal)) in
+    c .check-matrix .ensures ∙ sym (left-to-later earlier (matrixLengths (a .dim) (a .offsets / 4) (a .columns / 4) (a .values / 8) (a .diagonal / 8)) (none-of-zero earlier refl (passed (c .before))))
+
+pub check-matrix-bytes-spec : {M : Type 1} → statement M
+check-matrix-bytes-spec =
+    tie.close (tie.spec (λ c κs. search needs) (λ c κs. search needs) (λ c κs. search needs) returns check-matrix-requires returns-2)
