@@ -26,6 +26,24 @@ module _ {S : Type 0} (f : ℕ → S → S) where
       back : lo + (hi - lo) ≡ hi
       back = omega arith
 
+  join : (lo m n : ℕ) (s : S) → steps f (lo + m) n (steps f lo m s) ≡ steps f lo (m + n) s
+  unfolding steps
+  join lo m zero s =
+      let e : m ≡ m + 0 = omega arith in
+      ap (λ (k : ℕ). steps f lo k s) e
+  join lo m (suc n) s =
+      let e : m + suc n ≡ suc (m + n) = omega arith in
+      let place : (lo + m) + n ≡ lo + (m + n) = omega arith in
+      rw e (ap (f ((lo + m) + n)) (join lo m n s) ∙ ap (λ (k : ℕ). f k (steps f lo (m + n) s)) place)
+
+  -- a range after another
+  pub iterate-join : (lo mid hi : ℕ) (s : S) → lo ≤ mid → mid ≤ hi → iterate f mid hi (iterate f lo mid s) ≡ iterate f lo hi s
+  unfolding iterate
+  iterate-join lo mid hi s first then =
+      let a : lo + (mid - lo) ≡ mid = omega arith in
+      let b : (mid - lo) + (hi - mid) ≡ hi - lo = omega arith in
+      rw (a, b) at (join lo (mid - lo) (hi - mid) s)
+
 -- What holds at the start and is kept by each step holds at the end.
 module _ {S : Type 0} (f : ℕ → S → S) (P : ℕ → S → Type 0) (lo : ℕ) (s : S) where
   from : (n : ℕ) → P lo s → ((i : ℕ) (t : S) → lo ≤ i → i < lo + n → P i t → P (i + 1) (f i t)) → P (lo + n) (steps f lo n s)

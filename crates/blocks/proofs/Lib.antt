@@ -2,4 +2,5 @@
 -- Assumes nothing.
 pub mod InverseLaws
 pub mod LentLaws
+pub mod ListedLaws
 pub mod Examples

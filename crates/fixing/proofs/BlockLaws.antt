@@ -1,34 +1,17 @@
 -- Blocks by their elements, for every N at once: what stands at a place of a block, a block that is its own elements, and a part that is put back where it was.
 -- Assumes nothing.
-use mathlib.Core.Path.{_≡_, refl, ap, _∙_}
-use mathlib.Core.Logic.{⊎-elim}
-use mathlib.Core.List.{List, [], _∷_}
+use mathlib.Core.Path.{_≡_, ap, _∙_}
+use mathlib.Core.List.{List}
 use Prim.Native.Nat.{ℕ, zero, suc, _+_, _*_, _/_, _%_, _≤_, _<_}
-use native.Mathlib.Nat.{not-suc-le-zero, le-of-suc-le-suc, eq-or-lt-of-le, mul-le-mul-left, mod-lt, mod-eq-of-lt, div-eq-of-lt, mod-add-div, add-mul-mod-self-left, add-mul-div-left, div-lt-iff-lt-mul}
+use native.Mathlib.Nat.{mul-le-mul-left, mod-lt, mod-eq-of-lt, div-eq-of-lt, mod-add-div, add-mul-mod-self-left, add-mul-div-left, div-lt-iff-lt-mul}
 use native.Mathlib.Omega.{arith}
-use lib.ListN.{length, getD, take, drop, length-append, List·getD-append, take-append-drop}
-use lib.Seq.{take-add, take-length, getD-at}
+use lib.ListN.{length, getD, take, drop, take-append-drop}
+use lib.Seq.{take-add, take-length}
 use lib.Ieee.{Float, nan}
 use Rattle.blocks.specs.Block.{listed, element, blockOf}
 use Rattle.blocks.specs.Lent.{valuesAt, putAt}
 use Rattle.blocks.proofs.LentLaws.{values-part}
-
-pub length-listed : (m : ℕ) (g : ℕ → Float) → length (listed m g) ≡ m
-length-listed zero g = refl
-length-listed (suc m) g = omega (arith, length-append (listed m g) (g m ∷ []), length-listed m g)
-
--- value k of a list of m values
-pub listed-at : (m : ℕ) (g : ℕ → Float) (k : ℕ) → k < m → getD (listed m g) k nan ≡ g k
-listed-at zero g k below = absurd (not-suc-le-zero below)
-listed-at (suc m) g k below =
-    ⊎-elim (λ e. rw e (getD-at (listed m g) (g m) [] nan m (length-listed m g)))
-    (λ l. List·getD-append (listed m g) (g m ∷ []) nan k (rw (length-listed m g) l) ∙ listed-at m g k l)
-    (eq-or-lt-of-le (le-of-suc-le-suc below))
-
--- two lists of m values are equal if their values are
-pub listed-same : (m : ℕ) (g h : ℕ → Float) → ((k : ℕ) → k < m → g k ≡ h k) → listed m g ≡ listed m h
-listed-same zero g h same = refl
-listed-same (suc m) g h same = rw (listed-same m g h (λ k l. same k (omega arith)), same m (omega arith))
+use Rattle.blocks.proofs.ListedLaws.{length-listed, listed-at, listed-same}
 
 -- a place of a block has its row and its column
 module _ (n j : ℕ) (below : j < n * n) where

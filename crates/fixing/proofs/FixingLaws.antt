@@ -15,7 +15,8 @@ use Rattle.matrix.proofs.FitLaws.{row-is}
 use Rattle.fixing.specs.Fixing.{isFixed, diagonalValue, fixedDiagonal, entryValue, fixedEntry, fixDiagonalAt, fixEntryAt, fixEntries, fixRow}
 use Rattle.fixing.specs.Steps.{fixedIn, given, anyTo}
 use Rattle.fixing.proofs.FlagLaws.{none-at, told-at}
-use Rattle.fixing.proofs.BlockLaws.{row-below, column-below, listed-same, block-same, put-back}
+use Rattle.blocks.proofs.ListedLaws.{listed-same}
+use Rattle.fixing.proofs.BlockLaws.{row-below, column-below, block-same, put-back}
 
 -- a value that a fixed row or column made +0 becomes valDia if it stands on the diagonal
 pub over-zero : (b : Bool) (v z x : Float) → cond b v (cond (b || b) z x) ≡ cond b v x

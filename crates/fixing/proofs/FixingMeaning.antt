@@ -21,7 +21,8 @@ use Rattle.blocks.proofs.LentLaws.{length-put, put-same, put-before, put-after}
 use Rattle.patterns.specs.Pattern.{rowsOf, rowOf, firstIsZero, validPattern, validOffsets}
 use Rattle.patterns.proofs.Use.{pattern-entries, valid-offsets, offset-first, offset-last, row-ends, row-length, row-column}
 use Rattle.fixing.specs.Fixing.{isFixed, diagonalValue, fixedDiagonal, entryValue, fixedEntry, fixDiagonalAt, fixDiagonal, fixEntryAt, fixEntry, fixEntries, fixRow, fixValues}
-use Rattle.fixing.proofs.BlockLaws.{length-listed, element-of}
+use Rattle.blocks.proofs.ListedLaws.{length-listed}
+use Rattle.fixing.proofs.BlockLaws.{element-of}
 
 -- From place `first` on m parts of B values each were replaced by what `made` makes of them, and no other part has changed.
 record Replaced (B first m : ℕ) (made : ℕ → List Float → List Float) (old new : List Float) : Type 0 where

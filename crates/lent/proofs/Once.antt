@@ -5,7 +5,7 @@ use mathlib.Core.List.{List, [], _∷_, append-nil}
 use mathlib.Core.Bool.{Bool, true, false, cond}
 use Prim.Native.Nat.{ℕ, zero, suc, _*_, _≤_}
 use native.Mathlib.Omega.{arith}
-use lib.ListN.{length, length-append, drop-of-length-le}
+use lib.ListN.{length, drop-of-length-le}
 use lib.Seq.{take-all}
 use lib.Ieee.{Float, Format}
 use Rattle.base.specs.Iterate.{steps, iterate}
@@ -13,12 +13,9 @@ use Rattle.answers.specs.declared.Answer.{Answer}
 use Rattle.blocks.specs.Block.{listed, product, applied}
 use Rattle.blocks.specs.Inverse.{inverse, singular}
 use Rattle.blocks.specs.Lent.{valuesAt, blockAt, vectorAt, putAt}
+use Rattle.blocks.proofs.ListedLaws.{length-listed}
 use Rattle.lent.specs.Steps.{Dim, productAt, applyAt, inverseAt, inverseOr, productEach, applyEach, inverseEach, Inverting, InvertingLast, partAt, eachPart}
 use Rattle.lent.proofs.Whole.{whole-values, put-whole}
-
-pub length-listed : (m : ℕ) (g : ℕ → Float) → length (listed m g) ≡ m
-length-listed zero g = refl
-length-listed (suc m) g = length-append (listed m g) (g m ∷ []) ∙ rw (length-listed m g) (omega arith)
 
 -- part 0 of a slice of one part
 part-whole : (m : ℕ) (values : List Float) → length values ≡ m → valuesAt m values (m * 0) ≡ values

@@ -11,8 +11,10 @@ use lib.Ieee.{Float, Format}
 use Rattle.base.proofs.Sizes.{part-fits}
 use Rattle.patterns.specs.Pattern.{rowsOf, rowOf, validOffsets, validEntries}
 use Rattle.patterns.proofs.Use.{pattern-entries, valid-offsets, row-ends, row-length, row-column-below}
-use Rattle.matrix.specs.Product.{addRowAt, multRow}
+use Rattle.matrix.specs.Product.{multRow}
+use Rattle.matrix.specs.Steps.{scaleAddRowAt, scaledFrom}
 use Rattle.matrix.specs.Fits.{RowFits, TurnFits, MatrixFits}
+use Rattle.matrix.proofs.ScaleLaws.{row-scaled}
 
 -- the part of the columns that is handed on is the row
 pub row-is : (o cs : List ℕ) (i a b : ℕ) → a ≡ getD o i 0 → b ≡ getD o (i + 1) 0 → take (b - a) (drop a cs) ≡ rowOf o cs i
@@ -47,9 +49,11 @@ module _ {n : ℕ} {o cs : List ℕ} {values diagonal : ℕ} (fit : MatrixFits n
           of-diagonal = part-fits (n * n) i (rowsOf o) diagonal h (omega (arith, fit .of-diagonal));
         }
 
--- a row of the matrix, from the part that is handed on
-pub turn : (f : Format) (n : ℕ) (alpha : Float) (o cs : List ℕ) (values diagonal x : List Float) (i a b : ℕ) (y z : List Float)
-    → a ≡ getD o i 0 → b ≡ getD o (i + 1) 0 → z ≡ addRowAt f n alpha (take (b - a) (drop a cs)) a values diagonal x i y
-    → z ≡ multRow f n alpha o cs values diagonal x i y
+-- a turn, from the part that is handed on: y with what is left of it scaled, to which row i of the matrix is added
+pub turn : (f : Format) (n : ℕ) (beta alpha : Float) (o cs : List ℕ) (values diagonal x : List Float) (i a b : ℕ) (y z : List Float)
+    → a ≡ getD o i 0 → b ≡ getD o (i + 1) 0 → n * i + n ≤ length y → z ≡ scaleAddRowAt f n beta alpha (take (b - a) (drop a cs)) a values diagonal x i y
+    → scaledFrom f beta (n * (i + 1)) z ≡ multRow f n alpha o cs values diagonal x i (scaledFrom f beta (n * i) y)
 unfolding multRow
-turn f n alpha o cs values diagonal x i a b y z p q added = rw (row-is o cs i a b p q, p) at added
+turn f n beta alpha o cs values diagonal x i a b y z p q fits made =
+    ap (scaledFrom f beta (n * (i + 1))) made
+    ∙ row-scaled f n beta alpha (take (b - a) (drop a cs)) a values diagonal x i y fits ∙ rw (row-is o cs i a b p q, p)

@@ -1,5 +1,6 @@
 -- What is proved about the matrix calls, besides each function's promise.
 -- Assumes nothing.
+pub mod ScaleLaws
 pub mod ProductLaws
 pub mod CheckLaws
 pub mod FitLaws

@@ -2,4 +2,5 @@
 -- Definitions only.
 pub mod Product
 pub mod Fits
+pub mod Steps
 pub mod Checks

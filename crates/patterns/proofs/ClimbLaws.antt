@@ -14,6 +14,7 @@ use borrow.Author.Tests.{ltb-true, lt-ltb, leb-true, le-leb, ne-eqb}
 use Rattle.base.proofs.All.{both, and-left, and-right, all-of}
 use Rattle.patterns.specs.Pattern.{absentTo, once, ownAbsent}
 use Rattle.patterns.specs.Steps.{climbsAt, climbs, eightClimb, eightClimbAt}
+use Rattle.patterns.proofs.TestLaws.{and-true}
 
 -- several tests in a row, and each of them
 abbrev conj : Bool → List Bool → Bool
@@ -222,6 +223,12 @@ module _ (n own least : ℕ) (row : List ℕ) where
     eight-last h =
         last-below n own least (getD row k 0) (getD row (k + 1) 0) (getD row (k + 2) 0) (getD row (k + 3) 0) (getD row (k + 4) 0) (getD row (k + 5) 0)
         (getD row (k + 6) 0) (getD row (k + 7) 0) h
+
+-- all of a row of eight
+pub eight-all : (n own least : ℕ) (row : List ℕ) → length row ≡ 8 → eightClimbAt n own least row 0 ≡ climbs n own least row
+eight-all n own least row long =
+    let none = none-left n own (getD row 7 0 + 1) row 8 (omega arith) in
+    sym (and-true _) ∙ ap (λ (b : Bool). eightClimbAt n own least row 0 && b) (sym none) ∙ sym (eight-on n own least row 0 (omega arith))
 
 -- What a row that climbs is.
 module _ (n own : ℕ) where

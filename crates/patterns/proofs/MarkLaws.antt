@@ -35,6 +35,13 @@ marked-one stamp row k column marks inside is =
       most = set-at-most stamp marks column;
     }
 
+-- one that has the stamp: it decides, and no mark is written
+pub marked-again : (stamp : ℕ) (row : List ℕ) (k column : ℕ) (marks : List ℕ) → k < length row → column ≡ getD row k 0 → isFresh stamp column marks ≡ false
+    → Marking stamp row k (k + 1) false marks marks
+unfolding allFresh
+marked-again stamp row k column marks inside is had =
+    record { left = rw (drop-cons row k 0 inside, ← is, had); long = refl; most = λ most. most }
+
 -- none yet
 pub marked-none : (stamp : ℕ) (row : List ℕ) (k : ℕ) (marks : List ℕ) → Marking stamp row k k true marks marks
 marked-none stamp row k marks = record { left = refl; long = refl; most = λ most. most }

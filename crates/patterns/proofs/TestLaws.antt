@@ -17,16 +17,9 @@ assoc true b c = refl
 assoc false b c = refl
 
 -- A turn of a loop that keeps a flag and has no way out in the middle. Its invariant is `flag ≡ allTo p i`.
-module _ (p : ℕ → Bool) (i : ℕ) (new : Bool) where
-  -- the test fails at i
-  pub flag-falls : p i ≡ false → new ≡ false → new ≡ allTo p (i + 1)
-  unfolding allTo
-  flag-falls fails is = rw (add-one, is) (sym (false-right (allTo p i) fails))
-
-  -- it holds
-  pub flag-stays : (old : Bool) → old ≡ allTo p i → p i ≡ true → new ≡ old → new ≡ allTo p (i + 1)
-  unfolding allTo
-  flag-stays old known holds is = rw (add-one, holds, is, known) (sym (and-true (allTo p i)))
+pub flag-on : (p : ℕ → Bool) (i : ℕ) (flag : Bool) → flag ≡ allTo p i → (flag && p i) ≡ allTo p (i + 1)
+unfolding allTo
+flag-on p i flag known = rw (add-one, known)
 
 exchanged : (a b c d : Bool) → ((a && b) && (c && d)) ≡ ((a && c) && (b && d))
 exchanged true true c d = refl

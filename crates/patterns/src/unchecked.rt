@@ -25,9 +25,7 @@ fn never_fall(offsets: &[u32]) -> bool
     let mut right = true;
     let mut i = 0;
     while i < rows {
-        if offsets[i] > offsets[i + 1] {
-            right = false;
-        }
+        right = right & (offsets[i] <= offsets[i + 1]);
         i += 1;
     }
     right
@@ -102,8 +100,8 @@ fn does_rest_climb(row: &[u32], from: usize, first: u32, own: u32, n: u32) -> bo
     true
 }
 
-// Whether a row rises strictly, has no column `own`, and all are below n. Then it needs no marks, and this is the quickest way to find it valid.
-fn is_climbing(row: &[u32], own: u32, n: u32) -> bool
+// A row of any length: eight columns at a time, then the rest.
+fn is_climbing_by_eights(row: &[u32], own: u32, n: u32) -> bool
     ensures { λ r. ⌜ r ≡ climbs n own 0 (now (row .entry)) ⌝ }
 {
     let mut least = 0;
@@ -116,6 +114,17 @@ fn is_climbing(row: &[u32], own: u32, n: u32) -> bool
         k += 8;
     }
     does_rest_climb(row, k, least, own, n)
+}
+
+// Whether a row rises strictly, has no column `own`, and all are below n. Then it needs no marks, and this is the quickest way to find it valid.
+// Most rows of a plate have eight columns, and one test without a loop takes a quarter less time.
+fn is_climbing(row: &[u32], own: u32, n: u32) -> bool
+    ensures { λ r. ⌜ r ≡ climbs n own 0 (now (row .entry)) ⌝ }
+{
+    if row.len() == 8 {
+        return do_eight_climb(row, 0, 0, own, n);
+    }
+    is_climbing_by_eights(row, own, n)
 }
 
 // The column that a row must not have: its own, or none that is below n.
@@ -151,23 +160,23 @@ fn are_below(columns: &[u32], n: u32) -> bool
     let mut right = true;
     let mut e = 0;
     while e < columns.len() {
-        if columns[e] >= n {
-            right = false;
-        }
+        right = right & (columns[e] < n);
         e += 1;
     }
     right
 }
 
-// Marks column k of a row with the row's stamp, and says whether it did not have it.
+// Marks column k of a row with the row's stamp, unless it has it already, and says which.
 fn is_next_fresh(marks: &mut [u8; 4096], row: &[u32], k: usize, stamp: u8) -> bool
     requires { ⌜ (k < length (now row)) × (allBelow 4096 (now row) ≡ true) ⌝ }
     ensures { λ r. ⌜ Marking stamp (now (row .entry)) k (k + 1) r (now (marks .entry)) (now (marks .exit)) ⌝ }
 {
     let column = wide(row[k]);
-    let old = marks[column];
+    if marks[column] == stamp {
+        return false;
+    }
     marks[column] = stamp;
-    old != stamp
+    true
 }
 
 // Four columns, written out: a loop over one at a time is twice as slow.
@@ -202,8 +211,8 @@ fn are_rest_fresh(marks: &mut [u8; 4096], row: &[u32], from: usize, stamp: u8) -
     true
 }
 
-// Whether each column of a row is new when it is marked.
-fn is_row_fresh(marks: &mut [u8; 4096], row: &[u32], stamp: u8) -> bool
+// The columns of a row of any length: four at a time, then the rest.
+fn are_all_fresh(marks: &mut [u8; 4096], row: &[u32], stamp: u8) -> bool
     requires { ⌜ allBelow 4096 (now row) ≡ true ⌝ }
     ensures { λ r. ⌜ Marking stamp (now (row .entry)) 0 (length (now (row .entry))) r (now (marks .entry)) (now (marks .exit)) ⌝ }
 {
@@ -215,6 +224,20 @@ fn is_row_fresh(marks: &mut [u8; 4096], row: &[u32], stamp: u8) -> bool
         k += 4;
     }
     are_rest_fresh(marks, row, k, stamp)
+}
+
+// Whether each column of a row is new when it is marked. A row of eight has no loop, as in `is_climbing`.
+fn is_row_fresh(marks: &mut [u8; 4096], row: &[u32], stamp: u8) -> bool
+    requires { ⌜ allBelow 4096 (now row) ≡ true ⌝ }
+    ensures { λ r. ⌜ Marking stamp (now (row .entry)) 0 (length (now (row .entry))) r (now (marks .entry)) (now (marks .exit)) ⌝ }
+{
+    if row.len() != 8 {
+        return are_all_fresh(marks, row, stamp);
+    }
+    if !are_four_fresh(marks, row, 0, stamp) {
+        return false;
+    }
+    are_four_fresh(marks, row, 4, stamp)
 }
 
 // A row whose own column is refused has it marked before the others, so that it counts as a repeat.

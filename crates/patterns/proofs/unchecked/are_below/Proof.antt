@@ -1,15 +1,13 @@
 -- `unchecked::are_below` meets its promise: the flag says whether the columns so far are below n.
 -- Assumes nothing.
 use mathlib.Core.Path.{_≡_}
-use mathlib.Core.Logic.{⊎-elim}
 use Prim.Native.Nat.{_-_, _≤_}
 use native.Mathlib.Omega.{arith}
 use lib.ListN.{length, getD}
 use lib.Dec.{ltb}
-use borrow.Author.Tests.{lt-ltb, le-ltb}
 use Rattle.base.specs.All.{allTo}
 use Rattle.patterns.specs.Pattern.{allBelow}
-use Rattle.patterns.proofs.TestLaws.{flag-falls, flag-stays}
+use Rattle.patterns.proofs.TestLaws.{flag-on}
 use borrow.Author.Needs.{needs}
 use Rattle.patterns.proofs.unchecked.are_below.Statement.{statement}
 use Rattle.patterns.proofs.unchecked.are_below.Tie as tie
@@ -25,14 +23,7 @@ unfolding allTo
 loop-holds c = search needs
 
 loop-again : tie.Need-loop-again Inv-loop μ-loop
-loop-again c =
-    let at = c .before .before .before in (
-      omega arith,
-      ⊎-elim
-          (λ w. flag-falls _ (at .loop .e) _ (le-ltb _ _ (w .0 .taken)) (w .1))
-          (λ w. flag-stays _ (at .loop .e) _ (at .loop .right) (at .loop .inv .1) (lt-ltb _ _ (w .0 .left)) (w .1))
-          (c .if1 .came),
-    )
+loop-again c = let at = c .before .before in (omega arith, flag-on _ (at .loop .e) _ (at .loop .inv .1))
 
 returns : tie.Need-returns Inv-loop μ-loop
 unfolding allBelow

@@ -1,34 +1,20 @@
--- `unchecked::is_row_fresh` meets its promise: the columns so far were fresh, so that those left decide.
+-- `unchecked::is_row_fresh` meets its promise: two markings of four columns are that of a row of eight.
 -- Assumes nothing.
-use mathlib.Core.Path.{refl}
-use mathlib.Core.Bool.{true}
-use Prim.Native.Nat.{_-_, _≤_}
+use mathlib.Core.Path.{_≡_, refl, sym}
 use native.Mathlib.Omega.{arith}
-use lib.ListN.{length}
 use borrow.Author.Tests.{not-true, not-false}
-use Rattle.patterns.specs.Marks.{Marking}
-use Rattle.patterns.proofs.MarkLaws.{marked-stops, marked-passes, marked-on}
+use Rattle.patterns.proofs.MarkLaws.{marked-stops, marked-on, marked-to}
 use borrow.Author.Needs.{needs}
 use Rattle.patterns.proofs.unchecked.is_row_fresh.Statement.{statement}
 use Rattle.patterns.proofs.unchecked.is_row_fresh.Tie as tie
 
-abbrev Inv-loop : tie.InvT-loop
-Inv-loop marks₀ row stamp k₀ marks k = (k ≤ length row) × Marking stamp row 0 k true marks₀ marks
+returns-2 : tie.Need-returns-2
+returns-2 c = marked-stops (c .before .are-four-fresh .ensures) (not-true _ (c .if2 .taken))
 
-abbrev μ-loop : tie.MeasureT-loop
-μ-loop marks₀ row stamp k₀ marks k = length row - k
-
-returns : tie.Need-returns Inv-loop μ-loop
-returns c = marked-stops (marked-on (c .before .before .before .before .loop .inv .1) refl (c .before .are-four-fresh .ensures) refl) (not-true _ (c .if1 .taken))
-
-loop-again : tie.Need-loop-again Inv-loop μ-loop
-loop-again c =
-    (omega arith, marked-passes (marked-on (c .before .before .before .before .loop .inv .1) refl (c .before .are-four-fresh .ensures) refl) (not-false _ (c .if1 .left)))
-
-returns-2 : tie.Need-returns-2 Inv-loop μ-loop
-returns-2 c = marked-on (c .before .before .before .loop .inv .1) refl (c .are-rest-fresh .ensures) refl
+returns-3 : tie.Need-returns-3
+returns-3 c =
+    marked-to (marked-on (c .before .before .before .are-four-fresh .ensures) (not-false _ (c .before .before .if2 .left)) (c .are-four-fresh2 .ensures) refl) (omega arith)
 
 pub is-row-fresh-spec : {M : Type 1} → statement M
 is-row-fresh-spec =
-    tie.close (tie.spec Inv-loop μ-loop (λ c. search needs) (λ c. search needs) (λ c κs. search needs) returns (λ c. search needs) (λ c. search needs)
-    loop-again (λ c κs. search needs) returns-2)
+    tie.close (tie.spec (λ c κs. search needs) (λ c. search needs) (λ c κs. search needs) returns-2 (λ c κs. search needs) returns-3)

@@ -1,7 +1,6 @@
 -- `unchecked::never_fall` meets its promise: the flag says whether the offsets so far never fall.
 -- Assumes nothing.
 use mathlib.Core.Path.{_≡_}
-use mathlib.Core.Logic.{⊎-elim}
 use Prim.Native.Nat.{_+_, _-_, _≤_}
 use native.Mathlib.Omega.{arith}
 use lib.ListN.{getD}
@@ -9,7 +8,7 @@ use lib.Dec.{leb}
 use borrow.Author.Tests.{le-leb, lt-leb}
 use Rattle.base.specs.All.{allTo}
 use Rattle.patterns.specs.Pattern.{rowsOf, neverFall}
-use Rattle.patterns.proofs.TestLaws.{flag-falls, flag-stays}
+use Rattle.patterns.proofs.TestLaws.{flag-on}
 use borrow.Author.Needs.{needs}
 use Rattle.patterns.proofs.unchecked.never_fall.Statement.{statement}
 use Rattle.patterns.proofs.unchecked.never_fall.Tie as tie
@@ -25,15 +24,7 @@ unfolding allTo
 loop-holds c = search needs
 
 loop-again : tie.Need-loop-again Inv-loop μ-loop
-loop-again c =
-    let at = c .before .before .before .before in (
-      omega arith,
-      search needs,
-      ⊎-elim
-          (λ w. flag-falls _ (at .loop .i) _ (lt-leb _ _ (w .0 .taken)) (w .1))
-          (λ w. flag-stays _ (at .loop .i) _ (at .loop .right) (at .loop .inv .2) (le-leb _ _ (w .0 .left)) (w .1))
-          (c .if1 .came),
-    )
+loop-again c = let at = c .before .before .before in (omega arith, search needs, flag-on _ (at .loop .i) _ (at .loop .inv .2))
 
 returns : tie.Need-returns Inv-loop μ-loop
 unfolding neverFall

@@ -1,0 +1,20 @@
+-- `unchecked::add_four_3` meets its promise: the four entries are added one after the other.
+-- Assumes nothing.
+use mathlib.Core.List.{List}
+use Prim.Native.Nat.{ℕ}
+use lib.Ieee.{Float, binary64}
+use borrow.Author.Needs.{needs}
+use Rattle.matrix.specs.Product.{addEntry}
+use Rattle.matrix.proofs.ProductLaws.{four-more}
+use Rattle.matrix.proofs.unchecked.add_four_3.Statement.{statement}
+use Rattle.matrix.proofs.unchecked.add_four_3.Tie as tie
+
+returns : tie.Need-returns
+returns c =
+    let a = c .before .before .before .before .before .before .before .args in
+    four-more (addEntry binary64 3 (a .alpha) (a .row .now) (a .first) (a .values .now) (a .x .now)) (a .k) _ _ _ _ _ (c .before .before .before .add-entry-3 .ensures)
+    (c .before .before .add-entry-32 .ensures) (c .before .add-entry-33 .ensures) (c .add-entry-34 .ensures)
+
+pub add-four-3-spec : {M : Type 1} → statement M
+add-four-3-spec =
+    tie.close (tie.spec (λ c κs. search needs) (λ c. search needs) (λ c κs. search needs) (λ c. search needs) (λ c κs. search needs) (λ c. search needs) (λ c κs. search needs) returns)
