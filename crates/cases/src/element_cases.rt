@@ -1,16 +1,14 @@
 // The calls that add an element: a line of numbers for each call at each N, then the limits of rows and columns.
 // The cases are those of crate element_limits.
 use crate::print_seen;
+use crate::print_text;
+use case_texts::element_call;
+use case_texts::heading;
 use element_limits::is_case_of;
 use element_limits::try_case;
 
 fn print_name(call: usize, dim: usize) {
-    match call {
-        0 => io::write_all(1, b"merge_"),
-        1 => io::write_all(1, b"csrdia"),
-        _ => io::write_all(1, b"blkcsr_"),
-    }
-    ;
+    print_text(element_call(call));
     if call != 1 {
         io::print_decimal(1, dim as u64);
     }
@@ -37,18 +35,9 @@ fn print_line(call: usize, dim: usize, from: usize, to: usize) {
 }
 
 fn refusals() {
-    io::write_all(
-        1,
-        b"Element calls, a dash where a call has no such slice: m = 2, 0, 1, 8, 9; element short, long; values short, long; diagonal short, long;\n",
-    );
-    io::write_all(
-        1,
-        b"column nodes short, long; a row node that is n; a column node that is n; a node twice; a pair without an entry; that and a node that is n;\n",
-    );
-    io::write_all(
-        1,
-        b"own columns; those and a wrong length; both and no row.\n",
-    );
+    print_text(heading(5));
+    print_text(heading(6));
+    print_text(heading(7));
     print_line(0, 1, 0, 21);
     print_line(0, 2, 0, 21);
     print_line(0, 3, 0, 21);
@@ -59,10 +48,7 @@ fn refusals() {
 }
 
 fn sizes() {
-    io::write_all(
-        1,
-        b"Element calls of one node at N = 1: 4096 rows, 4097 rows, 65535 columns, 65536 columns.\n",
-    );
+    print_text(heading(8));
     print_line(0, 1, 21, 25);
     print_line(1, 1, 21, 25);
     print_line(2, 1, 21, 25);

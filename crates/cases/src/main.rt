@@ -5,8 +5,26 @@ pub mod matrix_cases;
 pub mod pattern_cases;
 pub mod vector_cases;
 
-use answers::Answer;
+use block_cases::Shown;
+use block_cases::inverse;
+use block_cases::pivot;
+use block_cases::product;
+use block_cases::root;
+use block_cases::update;
+use case_texts::heading;
 use limits::Seen;
+use texts::Text;
+
+fn print_head(bytes: &[u8], count: usize) {
+    if count <= bytes.len() {
+        io::write_all(1, &bytes[0..count]);
+    }
+}
+
+pub fn print_text(text: Text) {
+    let bytes = text.bytes;
+    print_head(&bytes, text.count);
+}
 
 fn print_value(x: f64) {
     io::write_all(1, b" ");
@@ -35,116 +53,64 @@ pub fn print_seen(seen: Seen) {
     }
 }
 
-fn print_inverse(name: &[u8], answer: Answer, values: &[f64]) {
-    io::write_all(1, name);
+// The first values of a case, after what stands before them.
+fn print_first(before: &[u8], values: &[f64], count: usize) {
+    if count <= values.len() {
+        print_values(before, &values[0..count]);
+    }
+}
+
+fn print_shown(shown: Shown) {
+    let name = shown.name;
+    print_text(name);
+    let values = shown.values;
+    print_first(b"", &values, shown.count);
+}
+
+fn print_inverse(shown: Shown) {
+    let name = shown.name;
+    print_text(name);
+    let answer = shown.answer;
     io::write_all(1, b": number ");
     io::print_decimal(1, answer.number() as u64);
     if answer.number() == 9 {
         io::write_all(1, b" row ");
         io::print_decimal(1, answer.row() as u64);
     }
-    print_values(b",", values);
+    let values = shown.values;
+    print_first(b",", &values, shown.count);
 }
 
-fn print_inverse_1(name: &[u8], a: [f64; 1]) {
-    let inverse = blocks::inverse_1(a);
-    print_inverse(name, inverse.answer, &inverse.block);
-}
-
-fn print_inverse_2(name: &[u8], a: [f64; 4]) {
-    let inverse = blocks::inverse_2(a);
-    print_inverse(name, inverse.answer, &inverse.block);
-}
-
-fn print_inverse_3(name: &[u8], a: [f64; 9]) {
-    let inverse = blocks::inverse_3(a);
-    print_inverse(name, inverse.answer, &inverse.block);
-}
-
-// The pivots that decompose will meet: rows (4, 2), (2, 5) and rows (1, 1), (1, 1).
 fn pivots() {
-    print_inverse_1(b"case 8, inverse of the first pivot 4", [4.0]);
-    let inverse = blocks::inverse_1([4.0]);
-    let quarter = inverse.block;
-    let upper = blocks::product_1(quarter, [2.0]);
-    print_values(b"case 8, upper entry 0.25 * 2:", &upper);
-    let pivot = blocks::subtract_1([5.0], blocks::product_1([2.0], upper));
-    print_values(b"case 8, second pivot 5 - 2 * 0.5:", &pivot);
-    let zero = blocks::subtract_1([1.0], blocks::product_1([1.0], [1.0]));
-    print_inverse_1(b"case 9, inverse of the second pivot 1 - 1 * 1", zero);
-    print_inverse_2(b"case 9 as one block of N = 2", [1.0, 1.0, 1.0, 1.0]);
+    print_inverse(pivot(0));
+    print_shown(update(0));
+    print_shown(update(1));
+    print_inverse(pivot(1));
+    print_inverse(pivot(2));
 }
 
 fn inverses() {
-    print_inverse_2(b"inverse of rows (1, 2), (3, 4)", [1.0, 3.0, 2.0, 4.0]);
-    print_inverse_3(
-        b"inverse of rows (1, 2, 3), (0, 1, 4), (5, 6, 0)",
-        [1.0, 0.0, 5.0, 2.0, 1.0, 6.0, 3.0, 4.0, 0.0],
-    );
-    print_inverse_3(
-        b"inverse of rows (1, 2, 3), (4, 5, 6), (7, 8, 9), refused",
-        [1.0, 4.0, 7.0, 2.0, 5.0, 8.0, 3.0, 6.0, 9.0],
-    );
-    print_inverse_1(b"inverse of -0, refused", [-0.0]);
-    print_inverse_1(b"inverse of an infinity", [1.0 / 0.0]);
-    print_inverse_1(b"inverse of the smallest double", [5.0e-324]);
-    print_inverse_1(b"inverse of a NaN, not refused", [0.0 / 0.0]);
-    print_inverse_2(
-        b"inverse of rows (inf, 0), (0, 1), whose determinant is inf",
-        [1.0 / 0.0, 0.0, 0.0, 1.0],
-    );
-    print_inverse_2(
-        b"inverse of rows (NaN, 0), (0, 1), not refused",
-        [0.0 / 0.0, 0.0, 0.0, 1.0],
-    );
+    let mut case = 0;
+    while case < 9 {
+        print_inverse(inverse(case));
+        case += 1;
+    }
 }
 
-fn products() {
-    print_values(
-        b"sum of the one term -0 * 1, from +0 on:",
-        &blocks::apply_1([-0.0], [1.0]),
-    );
-    print_values(
-        b"row (2^53, 1, -2^53) times (1, 1, 1), in rising index:",
-        &blocks::apply_3(
-            [
-                9007199254740992.0,
-                0.0,
-                0.0,
-                1.0,
-                0.0,
-                0.0,
-                -9007199254740992.0,
-                0.0,
-                0.0,
-            ],
-            [1.0, 1.0, 1.0],
-        ),
-    );
-    print_values(
-        b"rows (1, 2), (3, 4) times rows (5, 6), (7, 8):",
-        &blocks::product_2([1.0, 3.0, 2.0, 4.0], [5.0, 7.0, 6.0, 8.0]),
-    );
-    print_values(
-        b"(1, -2, 3) scaled by -0.5:",
-        &blocks::scale_3([1.0, -2.0, 3.0], -0.5),
-    );
-}
-
-fn roots() {
-    print_values(b"case 12, root of 2:", &[root::square_root(2.0)]);
-    print_values(b"case 12, root of 2^-1074:", &[root::square_root(5.0e-324)]);
+fn products_and_roots() {
+    print_shown(product(0));
+    print_shown(product(1));
+    print_shown(product(2));
+    print_shown(product(3));
+    print_shown(root(0));
+    print_shown(root(1));
 }
 
 fn main() {
-    io::write_all(
-        1,
-        b"Values are printed as their 64 bits, a NaN as 7ff8000000000000.\n",
-    );
+    print_text(heading(0));
     pivots();
     inverses();
-    products();
-    roots();
+    products_and_roots();
     vector_cases::run();
     pattern_cases::run();
     matrix_cases::run();

@@ -1,19 +1,17 @@
 // The calls on a matrix: a line of numbers for each call at each N, then the limits of rows and columns, then values.
 // The cases are those of crate matrix_limits.
 use crate::print_seen;
+use crate::print_text;
 use crate::print_values;
+use case_texts::heading;
+use case_texts::matrix_call;
 use matrix_limits::fixed_pair;
 use matrix_limits::product;
 use matrix_limits::product_over_infinity;
 use matrix_limits::try_case;
 
 fn print_name(call: usize, dim: usize) {
-    match call {
-        0 => io::write_all(1, b"mult_vec_"),
-        1 => io::write_all(1, b"set_zero_"),
-        _ => io::write_all(1, b"set_fixed_bc_"),
-    }
-    ;
+    print_text(matrix_call(call));
     io::print_decimal(1, dim as u64);
     io::write_all(1, b":");
 }
@@ -53,10 +51,7 @@ fn print_sizes(call: usize, dim: usize) {
 }
 
 fn refusals() {
-    io::write_all(
-        1,
-        b"Matrix calls: right; each slice short, long; an own column; that and a wrong length; both and no row.\n",
-    );
+    print_text(heading(3));
     let mut call = 0;
     while call < 3 {
         print_refusals(call, 1);
@@ -67,10 +62,7 @@ fn refusals() {
 }
 
 fn sizes() {
-    io::write_all(
-        1,
-        b"Matrix calls: 4096 rows, 4097 rows; at N = 1 also 65535 columns, 65536 columns.\n",
-    );
+    print_text(heading(4));
     let mut call = 0;
     while call < 3 {
         print_sizes(call, 1);

@@ -1,28 +1,18 @@
 // The vector calls: a line of numbers for each call at each N, then values where a wrong order, a sign or a flag shows.
 // The cases are those of limits::vector_cases.
 use crate::print_seen;
+use crate::print_text;
 use crate::print_values;
+use case_texts::heading;
+use case_texts::vector_call;
 use limits::vector_cases::dot_of_rows;
 use limits::vector_cases::dot_of_values;
 use limits::vector_cases::fixed_pair;
 use limits::vector_cases::fixed_right_side;
 use limits::vector_cases::try_case;
 
-fn print_name(call: usize) {
-    match call {
-        0 => io::write_all(1, b"set_zero_"),
-        1 => io::write_all(1, b"copy_"),
-        2 => io::write_all(1, b"add_scaled_vector_"),
-        3 => io::write_all(1, b"scale_and_add_vec_"),
-        4 => io::write_all(1, b"set_fixed_"),
-        5 => io::write_all(1, b"set_fix_dof_to_rhs_vector_"),
-        _ => io::write_all(1, b"dot_"),
-    }
-    ;
-}
-
 fn print_line(call: usize, dim: usize) {
-    print_name(call);
+    print_text(vector_call(call));
     io::print_decimal(1, dim as u64);
     io::write_all(1, b":");
     let mut case = 0;
@@ -63,10 +53,7 @@ fn values() {
 }
 
 pub fn run() {
-    io::write_all(
-        1,
-        b"Vector calls: n = 0, 1, 4096, 4097; first slice a value short, long; second slice or flags short, long (set_zero has one slice).\n",
-    );
+    print_text(heading(1));
     print_lines();
     values();
 }

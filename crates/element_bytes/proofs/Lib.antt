@@ -1,6 +1,4 @@
--- What is proved about assembly on bytes, besides each function's promise.
+-- What is proved about `merge` and `csrdia` on bytes, besides each function's promise.
 -- Assumes nothing.
-pub mod NumberedLaws
 pub mod SizeLaws
-pub mod WayLaws
 pub mod RefusedLaws

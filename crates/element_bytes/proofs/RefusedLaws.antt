@@ -1,25 +1,21 @@
--- The ends of a call on bytes whose checks by lengths come first: refused by them, or as the call on the words ends.
+-- The end of a call on bytes that its checks by lengths refuse.
 -- Assumes nothing.
-use mathlib.Core.Path.{_≡_, refl, sym, ap, _∙_}
-use mathlib.Core.List.{List, [], _∷_, _++_}
-use mathlib.Core.Bool.{Bool, true, false, not, _||_}
+use mathlib.Core.Path.{_≡_}
+use mathlib.Core.List.{List, _∷_, _++_}
+use mathlib.Core.Bool.{not, _||_}
 use Prim.Native.Nat.{ℕ, _/_}
-use native.Mathlib.Omega.{arith}
 use lib.ListN.{length}
 use Rattle.answers.specs.declared.Answer.{Answer}
 use Rattle.answers.specs.Numbers.{numberOf}
-use Rattle.answers.specs.Checks.{Check, _when_, firstOf, noneHolds}
+use Rattle.answers.specs.Checks.{_when_, firstOf}
 use Rattle.answers.specs.Limits.{outsideOf}
 use Rattle.answers.specs.Promise.{Ends}
-use Rattle.answers.proofs.EndLaws.{ends-earlier, ends-later}
-use Rattle.patterns.specs.Pattern.{validEntries, validPattern}
-use Rattle.patterns.specs.Checks.{tooLarge}
+use Rattle.answers.proofs.EndLaws.{ends-earlier}
+use Rattle.patterns.specs.Pattern.{validPattern}
 use Rattle.elements.specs.declared.unchecked.Rule.{Rule}
-use Rattle.elements.specs.declared.unchecked.Rule.the-variants.{Never}
-use Rattle.elements.specs.Checks.{entryLengths, elementLengths, pairChecks, assemblyChecks, blkcsrChecks}
+use Rattle.elements.specs.Checks.{elementLengths, pairChecks, assemblyChecks}
 use Rattle.pattern_bytes.specs.Checks.{byteChecks}
-use Rattle.element_bytes.specs.Checks.{brokenEntries, brokenAssembly}
-use Rattle.element_bytes.specs.Rooms.{assemblyLengths, blkcsrLengths}
+use Rattle.element_bytes.specs.Checks.{brokenAssembly, assemblyLengths}
 
 -- r, c, o and cs are the words of the bytes, which are counted
 module _ {A : Type 0} (dim rows cols element offsets columns diagonal values : ℕ) (r c o cs : List ℕ) (er : length r ≡ rows / 4) (ec : length c ≡ cols / 4)
@@ -32,24 +28,3 @@ module _ {A : Type 0} (dim rows cols element offsets columns diagonal values : �
       let earlier = byteChecks offsets columns misshapen ++ elementLengths dim (length r) (length c) (element / 8) (length o) (length cs) (diagonal / 8) (values / 8) in
       let same : numberOf answer ≡ firstOf earlier = rw (er, ec, eo, ecs) first in
       ends-earlier earlier ((3 when not (validPattern o cs)) ∷ pairChecks rule r c o cs) answer k new old same is other
-
-  pub blkcsr-refused : numberOf answer ≡ firstOf (blkcsrLengths dim rows cols element offsets columns values) → (k ≡ 0 → ⊥)
-      → Ends (byteChecks offsets columns (outsideOf 1 3 dim || brokenEntries rows cols element offsets columns values)
-      ++ blkcsrChecks dim r c (element / 8) o cs (values / 8)) answer new old old
-  blkcsr-refused first other =
-      let misshapen = outsideOf 1 3 dim || brokenEntries rows cols element offsets columns values in
-      let earlier = byteChecks offsets columns misshapen ++ entryLengths dim (length r) (length c) (element / 8) (length o) (length cs) (values / 8) in
-      let same : numberOf answer ≡ firstOf earlier = rw (er, ec, eo, ecs) first in
-      ends-earlier earlier ((3 when not (validEntries o cs)) ∷ pairChecks Never r c o cs) answer k new old same is other
-
--- past the checks by lengths none of the bytes' own holds
-none-of-bytes : (large wrong : Bool) (later : List Check) → firstOf ((1 when large) ∷ (2 when wrong) ∷ later) ≡ 0 → noneHolds ((1 when large) ∷ (2 when wrong) ∷ []) ≡ true
-none-of-bytes true wrong later zero-is = absurd (omega (arith, zero-is))
-none-of-bytes false true later zero-is = absurd (omega (arith, zero-is))
-none-of-bytes false false later zero-is = refl
-
-pub words-end : {A : Type 0} (offsets columns : ℕ) (misshapen : Bool) (lengths later : List Check) (answer : Answer) (new old left : A)
-    → firstOf (byteChecks offsets columns misshapen ++ lengths) ≡ 0 → Ends later answer new old left
-    → Ends (byteChecks offsets columns misshapen ++ later) answer new old left
-words-end offsets columns misshapen lengths later answer new old left zero-is end =
-    ends-later (byteChecks offsets columns misshapen) later answer new old left (none-of-bytes (tooLarge (offsets / 4) (columns / 4)) misshapen lengths zero-is) end

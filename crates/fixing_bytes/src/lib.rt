@@ -4,7 +4,6 @@ use answers::Answer;
 use matrix_bytes::check_matrix_bytes;
 use matrix_bytes::check_vector_bytes;
 use matrix_bytes::is_many;
-use matrix_bytes::numbered;
 use matrix_bytes::unchecked::decode_both;
 use matrix_bytes::unchecked::encode_if_done;
 use pattern_bytes::is_broken_index;
@@ -24,9 +23,9 @@ ghost use Rattle.matrix.specs.Checks.{matrixChecks, vectorChecks};
 ghost use Rattle.fixing.specs.Fixing.{fixDiagonal, fixValues};
 ghost use Rattle.wire.specs.Bytes.{valuesIn, bytesOf};
 ghost use Rattle.wire.specs.Words.{indexesIn, flagsIn};
-ghost use Rattle.pattern_bytes.specs.Checks.{byteChecks};
+ghost use Rattle.pattern_bytes.specs.Checks.{byteChecks, Held};
 ghost use Rattle.matrix_bytes.specs.Checks.{misshapen, misshapenFlags};
-ghost use Rattle.matrix_bytes.specs.Rooms.{Held, HeldMatrix, FilledMatrix};
+ghost use Rattle.matrix_bytes.specs.Rooms.{HeldMatrix, FilledMatrix};
 ghost use Rattle.fixing_bytes.specs.Operations.{checksOf, newValues, newDiagonal};
 
 // The calls of this crate, so that both share one way from bytes to bytes.

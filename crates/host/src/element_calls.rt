@@ -1,7 +1,7 @@
 // The entry points of assembly, on numbers and lent byte slices, with N as a number: 4 bytes to an index, 8 to a value.
-// All work is in the crate `element_bytes`; here an answer becomes an outcome. None of these calls answers 9, so that no row is ever above 0.
-use crate::Outcome;
-use crate::vector_calls::rowless;
+// All work is in the crates `element_bytes` and `entry_bytes`; here an answer becomes an outcome. None of these calls answers 9, so that no row is ever above 0.
+use outcomes::Outcome;
+use outcomes::rowless;
 ghost use mathlib.Core.Path.{_≡_};
 ghost use mathlib.Core.List.{List, _++_};
 ghost use Prim.Native.Nat.{ℕ, _/_};
@@ -12,8 +12,10 @@ ghost use Rattle.elements.specs.Checks.{mergeChecks, csrdiaChecks, blkcsrChecks
 ghost use Rattle.wire.specs.Bytes.{valuesIn, bytesOf};
 ghost use Rattle.wire.specs.Words.{indexesIn};
 ghost use Rattle.pattern_bytes.specs.Checks.{byteChecks};
-ghost use Rattle.element_bytes.specs.Checks.{misshapenMerge, misshapenCsrdia, misshapenBlkcsr, listsIn, bytesOfLists};
-ghost use Rattle.host.specs.Calls.{Finished};
+ghost use Rattle.entry_bytes.specs.Checks.{misshapenBlkcsr};
+ghost use Rattle.assembly_bytes.specs.Ways.{listsIn, bytesOfLists};
+ghost use Rattle.element_bytes.specs.Checks.{misshapenMerge, misshapenCsrdia};
+ghost use Rattle.outcomes.specs.Calls.{Finished};
 
 // The same node place goes to the diagonal, other pairs to the entry.
 #[no_mangle]
@@ -75,5 +77,5 @@ pub extern "C" fn pierbramble_blkcsr(
         (bytesOf binary64 (blkcsrOf binary64 dim (indexesIn (now (rows .entry))) (indexesIn (now (cols .entry))) (valuesIn binary64 (now (element .entry))) (indexesIn (now (offsets .entry))) (indexesIn (now (columns .entry))) (valuesIn binary64 (now (values .entry)))))
         (now (values .entry)) (now (values .exit))) × (r .row ≡ 0) ⌝ }
 {
-    rowless(element_bytes::blkcsr(dim, rows, cols, element, offsets, columns, values))
+    rowless(entry_bytes::blkcsr(dim, rows, cols, element, offsets, columns, values))
 }

@@ -1,7 +1,7 @@
 // The entry points of the matrix calls, on numbers and lent byte slices, with N as a number: 8 bytes to a value, 4 to an index or a flag.
 // All work is in the crates `matrix_bytes` and `fixing_bytes`; here an answer becomes an outcome. None of these calls answers 9, so that no row is ever above 0.
-use crate::Outcome;
-use crate::vector_calls::rowless;
+use outcomes::Outcome;
+use outcomes::rowless;
 ghost use mathlib.Core.Path.{_≡_};
 ghost use mathlib.Core.List.{List, _++_};
 ghost use Prim.Native.Nat.{ℕ, _/_};
@@ -16,7 +16,7 @@ ghost use Rattle.wire.specs.Bytes.{valuesIn, bytesOf};
 ghost use Rattle.wire.specs.Words.{indexesIn, flagsIn};
 ghost use Rattle.pattern_bytes.specs.Checks.{byteChecks};
 ghost use Rattle.matrix_bytes.specs.Checks.{misshapen, misshapenVectors, misshapenFlags};
-ghost use Rattle.host.specs.Calls.{Finished};
+ghost use Rattle.outcomes.specs.Calls.{Finished};
 
 // y scaled by beta, plus alpha times the matrix times x.
 #[no_mangle]

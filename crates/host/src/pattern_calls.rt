@@ -1,7 +1,7 @@
 // The entry points of the pattern calls, on lent byte slices: 4 bytes to an index, the low byte first. No call here has an N.
 // All work is in the crate `pattern_bytes`; here an answer becomes an outcome. `timed` is the call on words, for a benchmark.
-use crate::Outcome;
-use crate::vector_calls::rowless;
+use outcomes::Outcome;
+use outcomes::rowless;
 ghost use mathlib.Core.Path.{_≡_};
 ghost use mathlib.Core.List.{_++_};
 ghost use lib.ListN.{length};
@@ -10,7 +10,7 @@ ghost use Rattle.patterns.specs.Checks.{patternChecks, entriesChecks, factorChe
 ghost use Rattle.rows.specs.Sort.{sortOf};
 ghost use Rattle.wire.specs.Words.{indexesIn, bytesOfIndexes};
 ghost use Rattle.pattern_bytes.specs.Checks.{byteChecks, brokenPattern, brokenFactor, rowChecks};
-ghost use Rattle.host.specs.Calls.{Checked, Finished};
+ghost use Rattle.outcomes.specs.Calls.{Checked, Finished};
 
 // Whether a pattern of A is valid.
 #[no_mangle]

@@ -7,8 +7,8 @@ ghost use Rattle.patterns.specs.Pattern.{rowsOf};
 ghost use Rattle.matrix.specs.Checks.{vectorChecks};
 ghost use Rattle.matrix.specs.Product.{multVec};
 ghost use Rattle.fixing.specs.Fixing.{fixDiagonal, fixValues};
-ghost use Rattle.matrix_bytes.specs.Checks.{dimChecks};
-ghost use Rattle.host.specs.Calls.{Finished};
+ghost use Rattle.numbered.specs.Checks.{dimChecks};
+ghost use Rattle.outcomes.specs.Calls.{Finished};
 
 #[no_mangle]
 pub extern "C" fn pierbramble_timed_mult_vec(
@@ -27,17 +27,7 @@ pub extern "C" fn pierbramble_timed_mult_vec(
         (multVec binary64 dim (now (offsets .entry)) (now (columns .entry)) (now (values .entry)) (now (diagonal .entry)) beta alpha (now (x .entry)) (now (y .entry)))
         (now (y .entry)) (now (y .exit)) ⌝ }
 {
-    matrix_bytes::numbered::mult_vec(
-        dim,
-        offsets,
-        columns,
-        values,
-        diagonal,
-        y,
-        beta,
-        alpha,
-        x,
-    ).number()
+    numbered::mult_vec(dim, offsets, columns, values, diagonal, y, beta, alpha, x).number()
 }
 
 #[no_mangle]
@@ -55,13 +45,5 @@ pub extern "C" fn pierbramble_timed_set_fixed_bc(
         (fixDiagonal binary64 dim «val_dia» (now (flags .entry)) (rowsOf (now (offsets .entry))) (now (diagonal .entry)), fixValues binary64 dim (now (flags .entry)) (now (offsets .entry)) (now (columns .entry)) (now (values .entry)))
         (now (diagonal .entry), now (values .entry)) (now (diagonal .exit), now (values .exit)) ⌝ }
 {
-    matrix_bytes::numbered::set_fixed_bc(
-        dim,
-        val_dia,
-        flags,
-        diagonal,
-        values,
-        offsets,
-        columns,
-    ).number()
+    numbered::set_fixed_bc(dim, val_dia, flags, diagonal, values, offsets, columns).number()
 }

@@ -1,14 +1,14 @@
 // The vector calls on values, for a benchmark: no bytes are coded, so that none are timed. Each is the public call at its N.
 // What each answers is its number, 2 for an N other than 1, 2, 3 whose rows are in range.
-use crate::Summed;
-use crate::vector_calls::summed_of;
+use outcomes::Summed;
+use outcomes::summed_of;
 ghost use mathlib.Core.List.{[], _∷_};
 ghost use lib.ListN.{length};
 ghost use lib.Ieee.{binary64};
 ghost use Rattle.vectors.specs.Vectors.{zeroed, copied, addScaled, scaleAdd, fixed, dotTo};
 ghost use Rattle.vector_bytes.specs.Checks.{words, callChecks};
-ghost use Rattle.host.specs.Calls.{Finished};
-ghost use Rattle.host.specs.Sums.{FinishedSum};
+ghost use Rattle.outcomes.specs.Calls.{Finished};
+ghost use Rattle.outcomes.specs.Sums.{FinishedSum};
 
 #[no_mangle]
 pub extern "C" fn pierbramble_timed_set_zero(dim: u32, n: u32, p: &mut [f64]) -> u32

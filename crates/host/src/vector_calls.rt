@@ -1,49 +1,19 @@
 // The entry points of the vector calls, on numbers and lent byte slices, with N as a number: 8 bytes to a value, 4 to a flag.
 // All work is in the crate `vector_bytes`; here an answer becomes an outcome. None of these calls answers 9, so that no row is ever above 0.
-use crate::Outcome;
-use crate::Summed;
-use answers::Answer;
-use vectors::Dot;
+use outcomes::Outcome;
+use outcomes::Summed;
+use outcomes::rowless;
+use outcomes::summed_of;
 ghost use mathlib.Core.Path.{_≡_};
 ghost use mathlib.Core.List.{[], _∷_};
 ghost use lib.ListN.{length};
 ghost use lib.Ieee.{binary64};
-ghost use Rattle.answers.specs.Numbers.{numberOf};
 ghost use Rattle.vectors.specs.Vectors.{zeroed, copied, addScaled, scaleAdd, fixed, dotTo};
-ghost use Rattle.vectors.specs.DotAnswers.{dotNumber};
 ghost use Rattle.wire.specs.Bytes.{valuesIn, bytesOf};
 ghost use Rattle.wire.specs.Words.{flagsIn};
 ghost use Rattle.vector_bytes.specs.Checks.{words, longWords, callChecks};
-ghost use Rattle.host.specs.Calls.{Finished};
-ghost use Rattle.host.specs.Sums.{sumOf, FinishedSum};
-
-// An answer as an outcome without a row.
-pub fn rowless(answer: Answer) -> Outcome
-    ensures { λ r. ⌜ (r .number ≡ numberOf answer) × (r .row ≡ 0) ⌝ }
-{
-    Outcome {
-        number: answer.number(),
-        row: 0,
-    }
-}
-
-// The same of a dot product.
-pub fn summed_of(dot: Dot) -> Summed
-    ensures { λ r. ⌜ (r .number ≡ dotNumber dot) × (r .row ≡ 0) × (r .sum ≡ sumOf binary64 dot) ⌝ }
-{
-    match dot {
-        Dot::Sum(sum) => Summed {
-            number: 0,
-            row: 0,
-            sum,
-        },
-        Dot::Refused(why) => Summed {
-            number: why.number(),
-            row: 0,
-            sum: 0.0,
-        },
-    }
-}
+ghost use Rattle.outcomes.specs.Calls.{Finished};
+ghost use Rattle.outcomes.specs.Sums.{FinishedSum};
 
 // Each value becomes +0.
 #[no_mangle]

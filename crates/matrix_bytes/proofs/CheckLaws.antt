@@ -3,37 +3,25 @@
 use mathlib.Core.Path.{_≡_, refl}
 use mathlib.Core.List.{[], _∷_, _++_}
 use mathlib.Core.Bool.{Bool, true, false, _||_}
-use Prim.Native.Nat.{ℕ, _+_, _-_, _*_, _/_, _%_, _≤_}
+use Prim.Native.Nat.{ℕ, _+_, _-_, _*_, _/_, _≤_}
 use native.Mathlib.Nat.{mul-le-mul-right}
 use native.Mathlib.Omega.{arith}
 use lib.Dec.{ltb}
-use borrow.Author.Tests.{ltb-false, eqb-true, not-false}
+use borrow.Author.Tests.{ltb-false}
 use Rattle.base.proofs.All.{or-left, or-right}
 use Rattle.answers.specs.Checks.{_when_, firstOf}
 use Rattle.answers.specs.Limits.{outsideOf, wrongLength}
-use Rattle.lent.specs.Steps.{Dim}
 use Rattle.patterns.specs.Checks.{tooLarge}
 use Rattle.patterns.proofs.SizeLaws.{rows-most, columns-most}
 use Rattle.matrix.specs.Checks.{wrongValues, matrixLengths, vectorLengths}
 use Rattle.matrix.proofs.CheckLaws.{block-most, entries-are, diagonal-is, matrix-too, first-is, second-is}
-use Rattle.pattern_bytes.specs.Checks.{broken, brokenPattern, byteChecks}
+use Rattle.pattern_bytes.specs.Checks.{broken, brokenPattern, byteChecks, Held}
+use Rattle.pattern_bytes.proofs.RoomLaws.{whole-indexes, whole-values}
+use Rattle.numbered.proofs.NumberedLaws.{dim-of}
 use Rattle.matrix_bytes.specs.Checks.{misshapen, misshapenVectors, misshapenFlags}
-use Rattle.matrix_bytes.specs.Rooms.{Held, HeldMatrix, isMany}
+use Rattle.matrix_bytes.specs.Rooms.{HeldMatrix, isMany}
 
 -- ---- bytes that are well formed
-
-pub dim-of : (d : ℕ) → outsideOf 1 3 d ≡ false → Dim d
-dim-of d inside =
-    record {
-      least = ltb-false d 1 (or-left (ltb d 1) (ltb 3 d) inside);
-      most = ltb-false 3 d (or-right (ltb d 1) (ltb 3 d) inside);
-    }
-
-whole-indexes : (bytes : ℕ) → broken 4 bytes ≡ false → bytes ≡ 4 * (bytes / 4)
-whole-indexes bytes right = let even : bytes % 4 ≡ 0 = eqb-true (bytes % 4) 0 (not-false _ right) in omega arith
-
-whole-values : (bytes : ℕ) → broken 8 bytes ≡ false → bytes ≡ 8 * (bytes / 8)
-whole-values bytes right = let even : bytes % 8 ≡ 0 = eqb-true (bytes % 8) 0 (not-false _ right) in omega arith
 
 module _ (dim o cs v d : ℕ) (formed : misshapen dim o cs v d ≡ false) where
   pub range-of : outsideOf 1 3 dim ≡ false

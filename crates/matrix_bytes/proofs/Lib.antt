@@ -2,5 +2,4 @@
 -- Assumes nothing.
 pub mod CheckLaws
 pub mod EndedLaws
-pub mod NumberedLaws
 pub mod WayLaws

@@ -3,10 +3,9 @@
 use mathlib.Core.Path.{_≡_, refl, sym, ap, _∙_}
 use mathlib.Core.List.{List, [], _∷_, _++_}
 use mathlib.Core.Bool.{Bool, true, false, cond}
-use Prim.Native.Nat.{ℕ, _*_, _/_, _≤_}
+use Prim.Native.Nat.{ℕ, _*_, _/_}
 use lib.Dec.{eqb}
-use lib.ListN.{length, take, replicate, length-replicate}
-use lib.Seq.{length-take-le}
+use lib.ListN.{length}
 use lib.Ieee.{Float, Format, binary64}
 use Rattle.base.proofs.All.{or-left, or-right}
 use Rattle.answers.specs.declared.Answer.{Answer}
@@ -21,15 +20,12 @@ use Rattle.matrix.proofs.PatternEnds.{pair-of}
 use Rattle.wire.specs.Bytes.{valuesIn, bytesOf}
 use Rattle.wire.specs.Words.{indexesIn}
 use Rattle.wire.proofs.ByteLaws.{length-values}
-use Rattle.matrix_bytes.specs.Checks.{dimChecks}
-use Rattle.matrix_bytes.specs.Rooms.{Held, HeldMatrix, FilledMatrix, written}
-use Rattle.matrix_bytes.proofs.NumberedLaws.{once}
+use Rattle.pattern_bytes.specs.Checks.{Held}
+use Rattle.numbered.specs.Checks.{dimChecks}
+use Rattle.numbered.proofs.NumberedLaws.{once}
+use Rattle.matrix_bytes.specs.Rooms.{HeldMatrix, FilledMatrix, written}
 
 -- ---- room
-
--- a part of a room has as many words as it was asked for
-pub part-of-room : {A : Type 0} (room count : ℕ) (x : A) → count ≤ room → length (take count (replicate room x)) ≡ count
-part-of-room room count x few = length-take-le count (replicate room x) (rw (length-replicate room x) few)
 
 -- parts of the words that a room holds are filled by the bytes
 pub fills : (k room bytes part : ℕ) → Held k room bytes → part ≡ bytes / k → bytes ≡ k * part

@@ -1,18 +1,11 @@
--- What the matrix calls look at before their own checks, where N is a number and where all that is lent is bytes.
+-- What the matrix calls on lent bytes refuse with 2 before the words are read.
 -- Definitions only.
-use mathlib.Core.List.{List, [], _∷_}
 use mathlib.Core.Bool.{Bool, _||_}
 use Prim.Native.Nat.{ℕ}
-use Rattle.answers.specs.Checks.{Check, _when_}
 use Rattle.answers.specs.Limits.{outsideOf}
-use Rattle.patterns.specs.Checks.{tooLarge}
 use Rattle.pattern_bytes.specs.Checks.{broken, brokenPattern}
 
--- on words: the size of the pattern, then N
-abbrev pub dimChecks : ℕ → ℕ → ℕ → List Check
-dimChecks dim offsets columns = (1 when tooLarge offsets columns) ∷ (2 when outsideOf 1 3 dim) ∷ []
-
--- on bytes: N is none of 1, 2, 3, or the bytes of the matrix make no whole words
+-- N is none of 1, 2, 3, or the bytes of the matrix make no whole words
 abbrev pub misshapen : ℕ → ℕ → ℕ → ℕ → ℕ → Bool
 misshapen dim offsets columns values diagonal = outsideOf 1 3 dim || (brokenPattern offsets columns || (broken 8 values || broken 8 diagonal))
 

@@ -3,16 +3,12 @@
 use mathlib.Core.Path.{_≡_}
 use mathlib.Core.Bool.{Bool, false, _||_, cond}
 use mathlib.Core.List.{List}
-use Prim.Native.Nat.{ℕ, _+_, _*_, _/_, _≤_}
+use Prim.Native.Nat.{ℕ, _+_, _*_}
 use lib.Dec.{ltb, eqb}
 use lib.Ieee.{Float, Format}
 use Rattle.answers.specs.Limits.{outsideOf}
 use Rattle.wire.specs.Bytes.{bytesOf}
-
--- words of k bytes, no more than a room has
-pub record Held (k room bytes : ℕ) : Type 0 where
-  pub whole : bytes ≡ k * (bytes / k)
-  pub few : bytes / k ≤ room
+use Rattle.pattern_bytes.specs.Checks.{Held}
 
 -- N is 1, 2 or 3, and the matrix has no more than so many rows and entries
 pub record HeldMatrix (rows entries dim offsets columns values diagonal : ℕ) : Type 0 where

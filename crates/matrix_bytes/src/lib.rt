@@ -1,11 +1,11 @@
 // The product of a matrix on lent bytes, with N as a number: 8 bytes to a value and 4 to an index, the low byte first. And the checks of every matrix call on bytes.
 // A call whose size, N or bytes are wrong answers 1 or 2 and changes nothing; any other is the call of `matrix` at that N, from bytes to bytes.
-pub mod numbered;
 pub mod unchecked;
 
 use answers::Answer;
 use matrix::unchecked::check_matrix;
 use matrix::unchecked::check_vectors;
+use numbered::is_no_dim;
 use pattern_bytes::check_bytes;
 use pattern_bytes::is_broken_pattern;
 use pattern_bytes::is_broken_value;
@@ -25,18 +25,15 @@ ghost use Rattle.matrix.specs.Checks.{matrixLengths, vectorLengths, vectorCheck
 ghost use Rattle.matrix.specs.Product.{multVec};
 ghost use Rattle.wire.specs.Bytes.{valuesIn, bytesOf};
 ghost use Rattle.wire.specs.Words.{indexesIn};
-ghost use Rattle.pattern_bytes.specs.Checks.{broken, byteChecks};
+ghost use Rattle.pattern_bytes.specs.Checks.{broken, byteChecks, Held};
 ghost use Rattle.matrix_bytes.specs.Checks.{misshapen, misshapenVectors};
-ghost use Rattle.matrix_bytes.specs.Rooms.{Held, HeldMatrix, FilledMatrix, isMany};
+ghost use Rattle.matrix_bytes.specs.Rooms.{HeldMatrix, FilledMatrix, isMany};
 
 // Whether N is none of 1, 2, 3 or the bytes of a matrix make no whole words.
 fn is_misshapen(dim: u32, offsets: usize, columns: usize, values: usize, diagonal: usize) -> bool
     ensures { λ r. ⌜ r ≡ misshapen dim offsets columns values diagonal ⌝ }
 {
-    if dim < 1 {
-        return true;
-    }
-    if dim > 3 {
+    if is_no_dim(dim) {
         return true;
     }
     if is_broken_pattern(offsets, columns) {

@@ -3,7 +3,7 @@
 use mathlib.Core.Path.{_≡_, refl, sym, _∙_}
 use mathlib.Core.List.{List, [], _++_}
 use mathlib.Core.Bool.{Bool, true, false, not, _&&_, _||_}
-use Prim.Native.Nat.{ℕ, _-_, _*_, _/_, _%_, _≤_}
+use Prim.Native.Nat.{ℕ, _-_, _*_, _/_, _≤_}
 use native.Mathlib.Omega.{arith}
 use lib.Dec.{eqb, ltb}
 use borrow.Author.Tests.{eqb-true, ltb-false, not-true, not-false}
@@ -17,7 +17,8 @@ use Rattle.patterns.specs.Checks.{tooLarge}
 use Rattle.patterns.proofs.SizeLaws.{rows-most, rows-least, columns-most}
 use Rattle.wire.specs.Words.{indexesIn}
 use Rattle.wire.specs.Bytes.{wordsIn, wordsTo}
-use Rattle.pattern_bytes.specs.Checks.{broken, byteChecks, brokenPattern, brokenFactor, rowChecks, Whole}
+use Rattle.pattern_bytes.specs.Checks.{broken, byteChecks, brokenPattern, brokenFactor, rowChecks, Held}
+use Rattle.pattern_bytes.proofs.RoomLaws.{whole-indexes}
 
 -- ---- the number of a call: k is that of its first checks, as the code has it
 
@@ -35,9 +36,6 @@ handed-on offsets columns misshapen later answer none is = is ∙ sym (left-to-l
 
 -- ---- what is known where they have passed
 
-pub whole-bytes : (k bytes : ℕ) → broken k bytes ≡ false → bytes % k ≡ 0
-whole-bytes k bytes right = eqb-true (bytes % k) 0 (not-false _ right)
-
 module _ (offsets columns : ℕ) (misshapen : Bool) (none : noneHolds (byteChecks offsets columns misshapen) ≡ true) where
   pub not-too-large : tooLarge (offsets / 4) (columns / 4) ≡ false
   not-too-large = not-true _ (and-left (not (tooLarge (offsets / 4) (columns / 4))) (not misshapen && true) none)
@@ -53,15 +51,15 @@ module _ (offsets columns : ℕ) (misshapen : Bool) (none : noneHolds (byteCheck
 
 -- a pattern's bytes
 pub pattern-whole : (offsets columns : ℕ) (misshapen : Bool) → noneHolds (byteChecks offsets columns misshapen) ≡ true → brokenPattern offsets columns ≡ false
-    → Whole offsets 4097 × Whole columns 65535
+    → (Held 4 4097 offsets) × (Held 4 65535 columns)
 pattern-whole offsets columns misshapen none right = (
-  record { whole = whole-bytes 4 offsets (or-left (broken 4 offsets) (broken 4 columns) right); few = offsets-few offsets columns misshapen none },
-  record { whole = whole-bytes 4 columns (or-right (broken 4 offsets) (broken 4 columns) right); few = columns-few offsets columns misshapen none },
+  record { whole = whole-indexes offsets (or-left (broken 4 offsets) (broken 4 columns) right); few = offsets-few offsets columns misshapen none },
+  record { whole = whole-indexes columns (or-right (broken 4 offsets) (broken 4 columns) right); few = columns-few offsets columns misshapen none },
 )
 
 -- and a factor's: it has as many splits as rows
 pub factor-whole : (offsets columns splits : ℕ) → noneHolds (byteChecks offsets columns (brokenFactor offsets columns splits)) ≡ true
-    → Whole offsets 4097 × Whole columns 65535 × Whole splits 4096
+    → (Held 4 4097 offsets) × (Held 4 65535 columns) × (Held 4 4096 splits)
 factor-whole offsets columns splits none =
     let right = well-formed offsets columns (brokenFactor offsets columns splits) none in
     let pattern = pattern-whole offsets columns (brokenFactor offsets columns splits) none (or-left (brokenPattern offsets columns) _ right) in
@@ -75,8 +73,8 @@ unfolding indexesIn wordsIn wordsTo
 no-words = refl
 
 -- a row's bytes
-pub row-whole : (columns : ℕ) → noneHolds (rowChecks columns) ≡ true → Whole columns 65535
+pub row-whole : (columns : ℕ) → noneHolds (rowChecks columns) ≡ true → Held 4 65535 columns
 row-whole columns none =
     let few = not-true _ (and-left (not (entriesOutOfRange (columns / 4))) (not (broken 4 columns) && true) none) in
     let right = not-true _ (and-left (not (broken 4 columns)) true (and-right (not (entriesOutOfRange (columns / 4))) (not (broken 4 columns) && true) none)) in
-    record { whole = whole-bytes 4 columns right; few = ltb-false 65535 (columns / 4) (or-right (ltb (columns / 4) 0) (ltb 65535 (columns / 4)) few) }
+    record { whole = whole-indexes columns right; few = ltb-false 65535 (columns / 4) (or-right (ltb (columns / 4) 0) (ltb 65535 (columns / 4)) few) }

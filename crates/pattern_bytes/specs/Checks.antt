@@ -37,7 +37,7 @@ checksOf Factor offsets columns splits = factorChecks offsets columns splits
 abbrev pub rowChecks : ℕ → List Check
 rowChecks columns = (1 when entriesOutOfRange (columns / 4)) ∷ (2 when broken 4 columns) ∷ []
 
--- bytes that make whole words, and no more than so many
-pub record Whole (bytes most : ℕ) : Type 0 where
-  pub whole : bytes % 4 ≡ 0
-  pub few : bytes / 4 ≤ most
+-- bytes that make whole words of k bytes, no more of them than a room has
+pub record Held (k room bytes : ℕ) : Type 0 where
+  pub whole : bytes ≡ k * (bytes / k)
+  pub few : bytes / k ≤ room

@@ -19,7 +19,7 @@ ghost use Rattle.answers.specs.Promise.{Ends};
 ghost use Rattle.patterns.specs.Checks.{patternChecks, entriesChecks, factorChecks};
 ghost use Rattle.rows.specs.Sort.{sortOf};
 ghost use Rattle.wire.specs.Words.{indexesIn, bytesOfIndexes};
-ghost use Rattle.pattern_bytes.specs.Checks.{broken, byteChecks, brokenPattern, brokenFactor, checksOf, rowChecks, Whole};
+ghost use Rattle.pattern_bytes.specs.Checks.{broken, byteChecks, brokenPattern, brokenFactor, checksOf, rowChecks, Held};
 
 // What is asked of a pattern: one of A, one in which a row's own column may stand, or one of a factor.
 enum Kind {
@@ -95,7 +95,7 @@ fn check_in(
 
 // The same with room of its own, of a pattern of few words, which does not pay for the room of the largest.
 fn check_in_small_room(kind: Kind, offsets: &[u8], columns: &[u8], splits: &[u8]) -> Answer
-    requires { ⌜ Whole (length (now offsets)) 17 × Whole (length (now columns)) 64 × Whole (length (now splits)) 16 ⌝ }
+    requires { ⌜ (Held 4 17 (length (now offsets))) × (Held 4 64 (length (now columns))) × (Held 4 16 (length (now splits))) ⌝ }
     ensures { λ r. ⌜ numberOf r ≡ firstOf (checksOf kind (indexesIn (now (offsets .entry))) (indexesIn (now (columns .entry))) (indexesIn (now (splits .entry)))) ⌝ }
 {
     let mut offs = [0u32; 17];
@@ -113,7 +113,7 @@ fn check_in_small_room(kind: Kind, offsets: &[u8], columns: &[u8], splits: &[u8]
 }
 
 fn check_in_full_room(kind: Kind, offsets: &[u8], columns: &[u8], splits: &[u8]) -> Answer
-    requires { ⌜ Whole (length (now offsets)) 4097 × Whole (length (now columns)) 65535 × Whole (length (now splits)) 4096 ⌝ }
+    requires { ⌜ (Held 4 4097 (length (now offsets))) × (Held 4 65535 (length (now columns))) × (Held 4 4096 (length (now splits))) ⌝ }
     ensures { λ r. ⌜ numberOf r ≡ firstOf (checksOf kind (indexesIn (now (offsets .entry))) (indexesIn (now (columns .entry))) (indexesIn (now (splits .entry)))) ⌝ }
 {
     let mut offs = [0u32; 4097];
@@ -132,7 +132,7 @@ fn check_in_full_room(kind: Kind, offsets: &[u8], columns: &[u8], splits: &[u8])
 
 // The same with as much room as it takes.
 fn check_kind(kind: Kind, offsets: &[u8], columns: &[u8], splits: &[u8]) -> Answer
-    requires { ⌜ Whole (length (now offsets)) 4097 × Whole (length (now columns)) 65535 × Whole (length (now splits)) 4096 ⌝ }
+    requires { ⌜ (Held 4 4097 (length (now offsets))) × (Held 4 65535 (length (now columns))) × (Held 4 4096 (length (now splits))) ⌝ }
     ensures { λ r. ⌜ numberOf r ≡ firstOf (checksOf kind (indexesIn (now (offsets .entry))) (indexesIn (now (columns .entry))) (indexesIn (now (splits .entry)))) ⌝ }
 {
     if offsets.len() > 68 {
@@ -220,7 +220,7 @@ fn sort_in(room: &mut [u32], columns: &mut [u8])
 }
 
 fn sort_in_small_room(columns: &mut [u8])
-    requires { ⌜ Whole (length (now columns)) 64 ⌝ }
+    requires { ⌜ Held 4 64 (length (now columns)) ⌝ }
     ensures { λ _. ⌜ now (columns .exit) ≡ bytesOfIndexes (sortOf (indexesIn (now (columns .entry)))) ⌝ }
 {
     let mut room = [0u32; 64];
@@ -229,7 +229,7 @@ fn sort_in_small_room(columns: &mut [u8])
 }
 
 fn sort_in_full_room(columns: &mut [u8])
-    requires { ⌜ Whole (length (now columns)) 65535 ⌝ }
+    requires { ⌜ Held 4 65535 (length (now columns)) ⌝ }
     ensures { λ _. ⌜ now (columns .exit) ≡ bytesOfIndexes (sortOf (indexesIn (now (columns .entry)))) ⌝ }
 {
     let mut room = [0u32; 65535];
@@ -238,7 +238,7 @@ fn sort_in_full_room(columns: &mut [u8])
 }
 
 fn sort_whole(columns: &mut [u8])
-    requires { ⌜ Whole (length (now columns)) 65535 ⌝ }
+    requires { ⌜ Held 4 65535 (length (now columns)) ⌝ }
     ensures { λ _. ⌜ now (columns .exit) ≡ bytesOfIndexes (sortOf (indexesIn (now (columns .entry)))) ⌝ }
 {
     if columns.len() > 256 {

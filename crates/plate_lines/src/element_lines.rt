@@ -1,12 +1,11 @@
 // The lines of the assembly calls: the element's nodes and values, a pattern, and the values to which it is added.
 // What is left is the diagonal and the values, or the values alone.
-use crate::line::count_at;
-use crate::line::indexes_of;
-use crate::line::leaves;
-use crate::line::leaves_both;
-use crate::line::place;
-use crate::line::values_of;
-use element_bytes::numbered;
+use lines::line::count_at;
+use lines::line::indexes_of;
+use lines::line::leaves;
+use lines::line::leaves_both;
+use lines::line::place;
+use lines::line::values_of;
 
 pub fn merge_agrees(dim: u32, words: [u64; 128]) -> bool {
     let nodes = indexes_of(words, 6, 0);

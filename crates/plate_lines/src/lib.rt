@@ -1,42 +1,37 @@
 // The lines of the fixed list whose calls are lent slices of any length: each is run, with N as a number, and compared word for word.
 // A line's words are the count of each slice, then the call's numbers and slices in its order, its number and row, and what it leaves.
 pub mod element_lines;
-pub mod length;
-pub mod line;
 pub mod matrix_lines;
-pub mod pattern_lines;
-pub mod vector_lines;
 
 ghost use Prim.Native.Nat.{_≤_};
-use check::same;
+use lines::pattern_lines;
+use lines::vector_lines;
+use texts::Text;
+use texts::is_text;
+use texts::of_bytes;
 
 // How many of the list's calls are run here; a name that is none of them has this number.
 pub const CALLS: usize = 17;
 
-fn is_first_named(call: usize, name: &[u8]) -> bool {
+pub fn name_of(call: usize) -> Text {
     match call {
-        0 => same(name, b"set_zero"),
-        1 => same(name, b"copy"),
-        2 => same(name, b"add_scaled_vector"),
-        3 => same(name, b"scale_and_add_vec"),
-        4 => same(name, b"set_fixed"),
-        5 => same(name, b"set_fix_dof_to_rhs_vector"),
-        6 => same(name, b"dot"),
-        7 => same(name, b"check_pattern"),
-        _ => same(name, b"check_entries"),
-    }
-}
-
-fn is_last_named(call: usize, name: &[u8]) -> bool {
-    match call {
-        9 => same(name, b"check_factor"),
-        10 => same(name, b"sort_row"),
-        11 => same(name, b"mult_vec"),
-        12 => same(name, b"matrix_set_zero"),
-        13 => same(name, b"set_fixed_bc"),
-        14 => same(name, b"merge"),
-        15 => same(name, b"csrdia"),
-        _ => same(name, b"blkcsr"),
+        0 => of_bytes(b"set_zero"),
+        1 => of_bytes(b"copy"),
+        2 => of_bytes(b"add_scaled_vector"),
+        3 => of_bytes(b"scale_and_add_vec"),
+        4 => of_bytes(b"set_fixed"),
+        5 => of_bytes(b"set_fix_dof_to_rhs_vector"),
+        6 => of_bytes(b"dot"),
+        7 => of_bytes(b"check_pattern"),
+        8 => of_bytes(b"check_entries"),
+        9 => of_bytes(b"check_factor"),
+        10 => of_bytes(b"sort_row"),
+        11 => of_bytes(b"mult_vec"),
+        12 => of_bytes(b"matrix_set_zero"),
+        13 => of_bytes(b"set_fixed_bc"),
+        14 => of_bytes(b"merge"),
+        15 => of_bytes(b"csrdia"),
+        _ => of_bytes(b"blkcsr"),
     }
 }
 
@@ -45,14 +40,8 @@ pub fn index_of(name: &[u8]) -> usize
 {
     let mut i = 0;
     while i < CALLS {
-        if i < 9 {
-            if is_first_named(i, name) {
-                return i;
-            }
-        } else {
-            if is_last_named(i, name) {
-                return i;
-            }
+        if is_text(name_of(i), name) {
+            return i;
         }
         i += 1;
     }

@@ -1,14 +1,13 @@
 // The lines of the matrix calls: a pattern, the values of its entries and of its diagonal, and vectors or flags.
 // What is left is y, or the values and the diagonal in the order in which the call lends them.
-use crate::line::count_at;
-use crate::line::flags_of;
-use crate::line::indexes_of;
-use crate::line::leaves;
-use crate::line::leaves_both;
-use crate::line::place;
-use crate::line::value_at;
-use crate::line::values_of;
-use matrix_bytes::numbered;
+use lines::line::count_at;
+use lines::line::flags_of;
+use lines::line::indexes_of;
+use lines::line::leaves;
+use lines::line::leaves_both;
+use lines::line::place;
+use lines::line::value_at;
+use lines::line::values_of;
 
 // Beta and alpha stand between y and x.
 pub fn mult_vec_agrees(dim: u32, words: [u64; 128]) -> bool {

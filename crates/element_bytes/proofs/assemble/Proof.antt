@@ -6,10 +6,11 @@ use lib.ListN.{length}
 use Rattle.wire.specs.Words.{indexesIn}
 use Rattle.wire.proofs.WordLaws.{length-indexes}
 use Rattle.elements.specs.Checks.{elementLengths}
-use Rattle.element_bytes.specs.Rooms.{ruleOf}
+use Rattle.assembly_bytes.specs.Ways.{ruleOf}
 use Rattle.element_bytes.proofs.SizeLaws.{assembly-asked}
-use Rattle.element_bytes.proofs.WayLaws.{element-counted}
-use Rattle.element_bytes.proofs.RefusedLaws.{assembly-refused, words-end}
+use Rattle.assembly_bytes.proofs.WayLaws.{element-counted}
+use Rattle.entry_bytes.proofs.RefusedLaws.{words-end}
+use Rattle.element_bytes.proofs.RefusedLaws.{assembly-refused}
 use borrow.Author.Needs.{needs}
 use Rattle.element_bytes.proofs.assemble.Statement.{statement}
 use Rattle.element_bytes.proofs.assemble.Tie as tie

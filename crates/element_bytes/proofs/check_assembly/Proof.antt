@@ -5,7 +5,8 @@ use Prim.Native.Nat.{_/_}
 use Rattle.answers.specs.Limits.{outsideOf}
 use Rattle.elements.specs.Checks.{elementLengths}
 use Rattle.element_bytes.specs.Checks.{brokenAssembly}
-use Rattle.element_bytes.proofs.SizeLaws.{bytes-refuse, words-decide, dim-passed}
+use Rattle.pattern_bytes.proofs.PassLaws.{stopped, passed, handed-on}
+use Rattle.entry_bytes.proofs.SizeLaws.{dim-passed}
 use borrow.Author.Needs.{needs}
 use Rattle.element_bytes.proofs.check_assembly.Statement.{statement}
 use Rattle.element_bytes.proofs.check_assembly.Tie as tie
@@ -15,7 +16,7 @@ returns c =
     let a = c .before .before .before .before .args in
     let broken = brokenAssembly (a .rows) (a .cols) (a .element) (a .offsets) (a .columns) (a .diagonal) (a .values) in
     let later = elementLengths (a .dim) (a .rows / 4) (a .cols / 4) (a .element / 8) (a .offsets / 4) (a .columns / 4) (a .diagonal / 8) (a .values / 8) in
-    bytes-refuse (a .offsets) (a .columns) (outsideOf 1 3 (a .dim) || broken) later (c .before .before .check-bytes .result) (c .before .number .result) (rw (c .before .before .before .is-misshapen-assembly .ensures) at (c .before .before .check-bytes .ensures)) (c .before .number .ensures) (c .if1 .taken)
+    stopped (a .offsets) (a .columns) (outsideOf 1 3 (a .dim) || broken) (c .before .before .check-bytes .result) (c .before .number .result) (rw (c .before .before .before .is-misshapen-assembly .ensures) at (c .before .before .check-bytes .ensures)) (c .before .number .ensures) later (c .if1 .taken)
 
 check-element-lengths-requires : tie.Need-check-element-lengths-requires
 check-element-lengths-requires c κs =
@@ -28,7 +29,9 @@ returns-2 c =
     let a = c .before .before .before .before .before .args in
     let broken = brokenAssembly (a .rows) (a .cols) (a .element) (a .offsets) (a .columns) (a .diagonal) (a .values) in
     let later = elementLengths (a .dim) (a .rows / 4) (a .cols / 4) (a .element / 8) (a .offsets / 4) (a .columns / 4) (a .diagonal / 8) (a .values / 8) in
-    words-decide (a .offsets) (a .columns) (outsideOf 1 3 (a .dim) || broken) later (c .before .before .before .check-bytes .result) (c .before .before .number .result) (rw (c .before .before .before .before .is-misshapen-assembly .ensures) at (c .before .before .before .check-bytes .ensures)) (c .before .before .number .ensures) (c .before .if1 .left) _ (c .check-element-lengths .ensures)
+    handed-on (a .offsets) (a .columns) (outsideOf 1 3 (a .dim) || broken) later (c .check-element-lengths .result)
+    (passed (a .offsets) (a .columns) (outsideOf 1 3 (a .dim) || broken) (c .before .before .before .check-bytes .result) (c .before .before .number .result) (rw (c .before .before .before .before .is-misshapen-assembly .ensures) at (c .before .before .before .check-bytes .ensures)) (c .before .before .number .ensures) (c .before .if1 .left))
+    (c .check-element-lengths .ensures)
 
 pub check-assembly-spec : {M : Type 1} → statement M
 check-assembly-spec =

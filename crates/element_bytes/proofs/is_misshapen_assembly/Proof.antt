@@ -3,7 +3,7 @@
 use mathlib.Core.Path.{sym, _∙_}
 use Rattle.answers.specs.Limits.{outsideOf}
 use Rattle.pattern_bytes.specs.Checks.{broken}
-use Rattle.element_bytes.specs.Checks.{brokenEntries}
+use Rattle.entry_bytes.specs.Checks.{brokenEntries}
 use Rattle.element_bytes.proofs.SizeLaws.{one-more, last-decides}
 use borrow.Author.Needs.{needs}
 use Rattle.element_bytes.proofs.is_misshapen_assembly.Statement.{statement}

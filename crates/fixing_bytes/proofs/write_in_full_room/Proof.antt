@@ -3,7 +3,8 @@
 use mathlib.Core.Path.{sym}
 use lib.IntN.{pos}
 use lib.Ieee.{binary64, ofBits}
-use Rattle.matrix_bytes.proofs.WayLaws.{part-of-room, fills, filled}
+use Rattle.pattern_bytes.proofs.RoomLaws.{part-of-room}
+use Rattle.matrix_bytes.proofs.WayLaws.{fills, filled}
 use Rattle.fixing_bytes.proofs.write_in_full_room.Statement.{statement}
 use Rattle.fixing_bytes.proofs.write_in_full_room.Tie as tie
 

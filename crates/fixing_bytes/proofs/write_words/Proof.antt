@@ -4,7 +4,7 @@ use lib.ListN.{length}
 use borrow.Author.Needs.{needs}
 use Rattle.answers.specs.Limits.{outsideOf}
 use Rattle.patterns.specs.Checks.{tooLarge}
-use Rattle.matrix_bytes.proofs.NumberedLaws.{once}
+use Rattle.numbered.proofs.NumberedLaws.{once}
 use Rattle.matrix_bytes.proofs.EndedLaws.{swapped}
 use Rattle.fixing_bytes.proofs.write_words.Statement.{statement}
 use Rattle.fixing_bytes.proofs.write_words.Tie as tie

@@ -1,7 +1,7 @@
 -- `pierbramble_check_vector` meets its promise: its checks have the numbers 1 and 2, and those carry no row.
 -- Assumes nothing.
 use borrow.Author.Needs.{needs}
-use Rattle.host.proofs.OutcomeLaws.{checked}
+use Rattle.outcomes.proofs.OutcomeLaws.{checked}
 use Rattle.host.proofs.pierbramble_check_vector.Statement.{statement}
 use Rattle.host.proofs.pierbramble_check_vector.Tie as tie
 

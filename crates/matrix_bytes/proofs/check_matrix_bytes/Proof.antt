@@ -8,7 +8,8 @@ use Rattle.answers.proofs.EndLaws.{none-of-zero, refused-earlier, left-to-later
 use Rattle.pattern_bytes.specs.Checks.{byteChecks}
 use Rattle.matrix.specs.Checks.{matrixLengths}
 use Rattle.matrix_bytes.specs.Checks.{misshapen}
-use Rattle.matrix_bytes.proofs.CheckLaws.{dim-of, range-of, formed-of}
+use Rattle.numbered.proofs.NumberedLaws.{dim-of}
+use Rattle.matrix_bytes.proofs.CheckLaws.{range-of, formed-of}
 use Rattle.matrix_bytes.proofs.check_matrix_bytes.Statement.{statement}
 use Rattle.matrix_bytes.proofs.check_matrix_bytes.Tie as tie
 

@@ -2,7 +2,8 @@
 -- Assumes nothing.
 use mathlib.Core.Path.{sym}
 use lib.Ieee.{binary64, ofBits}
-use Rattle.matrix_bytes.proofs.WayLaws.{part-of-room, fills, filled}
+use Rattle.pattern_bytes.proofs.RoomLaws.{part-of-room}
+use Rattle.matrix_bytes.proofs.WayLaws.{fills, filled}
 use Rattle.matrix_bytes.proofs.mult_vec_in_full_room.Statement.{statement}
 use Rattle.matrix_bytes.proofs.mult_vec_in_full_room.Tie as tie
 

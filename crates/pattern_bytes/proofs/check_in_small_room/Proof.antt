@@ -1,7 +1,7 @@
 -- `check_in_small_room` meets its promise: parts of its rooms have the words of the bytes.
 -- Assumes nothing.
 use mathlib.Core.Path.{sym}
-use Rattle.pattern_bytes.proofs.RoomLaws.{part-of-room, filled}
+use Rattle.pattern_bytes.proofs.RoomLaws.{part-of-room, room-filled}
 use borrow.Author.Needs.{needs}
 use Rattle.pattern_bytes.proofs.check_in_small_room.Statement.{statement}
 use Rattle.pattern_bytes.proofs.check_in_small_room.Tie as tie
@@ -18,7 +18,7 @@ slice-aggregate-check-in-3 c = sym (part-of-room 16 _ 0 (c .before .before .befo
 check-in-requires : tie.Need-check-in-requires
 check-in-requires c κs =
     let fits = c .before .before .before .before .before .before .pre in
-    (filled 17 _ 0 (fits .0), filled 64 _ 0 (fits .1), filled 16 _ 0 (fits .2))
+    (room-filled 4 17 _ 0 (fits .0), room-filled 4 64 _ 0 (fits .1), room-filled 4 16 _ 0 (fits .2))
 
 pub check-in-small-room-spec : {M : Type 1} → statement M
 check-in-small-room-spec =

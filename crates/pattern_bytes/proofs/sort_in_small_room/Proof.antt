@@ -1,7 +1,7 @@
 -- `sort_in_small_room` meets its promise: a part of its room has the words of the row.
 -- Assumes nothing.
 use mathlib.Core.Path.{sym}
-use Rattle.pattern_bytes.proofs.RoomLaws.{part-of-room, filled}
+use Rattle.pattern_bytes.proofs.RoomLaws.{part-of-room, room-filled}
 use borrow.Author.Needs.{needs}
 use Rattle.pattern_bytes.proofs.sort_in_small_room.Statement.{statement}
 use Rattle.pattern_bytes.proofs.sort_in_small_room.Tie as tie
@@ -10,7 +10,7 @@ slice-aggregate-sort-in : tie.Need-slice-aggregate-sort-in
 slice-aggregate-sort-in c = sym (part-of-room 64 _ 0 (c .before .before .pre .few))
 
 sort-in-requires : tie.Need-sort-in-requires
-sort-in-requires c κs = filled 64 _ 0 (c .before .before .before .pre)
+sort-in-requires c κs = room-filled 4 64 _ 0 (c .before .before .before .pre)
 
 pub sort-in-small-room-spec : {M : Type 1} → statement M
 sort-in-small-room-spec =

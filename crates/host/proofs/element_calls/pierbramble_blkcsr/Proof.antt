@@ -1,7 +1,7 @@
 -- `element_calls::pierbramble_blkcsr` meets its promise: the end of the call, without a row.
 -- Assumes nothing.
 use borrow.Author.Needs.{needs}
-use Rattle.host.proofs.FinishedLaws.{finished-call}
+use Rattle.outcomes.proofs.FinishedLaws.{finished-call}
 use Rattle.host.proofs.element_calls.pierbramble_blkcsr.Statement.{statement}
 use Rattle.host.proofs.element_calls.pierbramble_blkcsr.Tie as tie
 

@@ -1,7 +1,7 @@
 -- `matrix_calls::pierbramble_mult_vec` meets its promise: the end of the call, without a row.
 -- Assumes nothing.
 use borrow.Author.Needs.{needs}
-use Rattle.host.proofs.FinishedLaws.{finished-call}
+use Rattle.outcomes.proofs.FinishedLaws.{finished-call}
 use Rattle.host.proofs.matrix_calls.pierbramble_mult_vec.Statement.{statement}
 use Rattle.host.proofs.matrix_calls.pierbramble_mult_vec.Tie as tie
 

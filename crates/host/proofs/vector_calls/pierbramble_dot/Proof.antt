@@ -2,7 +2,7 @@
 -- Assumes nothing.
 use lib.Ieee.{binary64}
 use borrow.Author.Needs.{needs}
-use Rattle.host.proofs.SumLaws.{finished-sum}
+use Rattle.outcomes.proofs.SumLaws.{finished-sum}
 use Rattle.host.proofs.vector_calls.pierbramble_dot.Statement.{statement}
 use Rattle.host.proofs.vector_calls.pierbramble_dot.Tie as tie
 

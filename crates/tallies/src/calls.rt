@@ -1,0 +1,43 @@
+// The calls of the list, in the list's order: first those on blocks and numbers, which the crate `block_lines` runs.
+// The calls on slices of any length are run by the crate `plate_lines`; their numbers come after.
+use crate::case::Case;
+use texts::Text;
+
+// How many calls the list has; a name that is none has this number.
+pub const CALLS: usize = 27;
+
+pub fn index_of(name: &[u8]) -> usize {
+    let call = block_lines::index_of(name);
+    if call < block_lines::CALLS {
+        return call;
+    }
+    block_lines::CALLS + plate_lines::index_of(name)
+}
+
+pub fn name_of(call: usize) -> Text {
+    if call < block_lines::CALLS {
+        return block_lines::name_of(call);
+    }
+    plate_lines::name_of(call - block_lines::CALLS)
+}
+
+// Whether a line of the call has so many words.
+pub fn fits(call: usize, dim: u32, words: [u64; 128], count: usize) -> bool {
+    if call >= CALLS {
+        return false;
+    }
+    if call >= block_lines::CALLS {
+        return count == lines::length::words_of(call - block_lines::CALLS, words);
+    }
+    count == block_lines::words_of(call, dim)
+}
+
+pub fn agrees(case: Case) -> bool {
+    let call = case.call;
+    let dim = case.dim;
+    let words = case.words;
+    if call < block_lines::CALLS {
+        return block_lines::agrees(call, dim, words);
+    }
+    plate_lines::agrees(call - block_lines::CALLS, dim, words)
+}
