@@ -10,12 +10,17 @@ use lib.Seq.{getD-take, getD-drop}
 use borrow.Author.Tests.{leb-true, eqb-true, ltb-true}
 use Rattle.base.specs.All.{allTo}
 use Rattle.base.proofs.All.{all-at, and-left, and-right}
-use Rattle.patterns.specs.Pattern.{rowsOf, rowOf, firstIsZero, neverFall, lastIsCount, allBelow, allOnce, allOwnAbsent, validOffsets, validEntries, validPattern}
+use Rattle.patterns.specs.Pattern.{rowsOf, rowOf, firstIsZero, neverFall, lastIsCount, allBelow, allOnce, ownAbsent, allOwnAbsent, validOffsets, validEntries, validPattern}
 
 -- a valid pattern is valid as entries
 pub pattern-entries : (o cs : List ℕ) → validPattern o cs ≡ true → validEntries o cs ≡ true
 unfolding validPattern
 pattern-entries o cs ok = and-left (validEntries o cs) (allOwnAbsent o cs) ok
+
+-- and no row has its own column
+pub own-absent : (o cs : List ℕ) → validPattern o cs ≡ true → (i : ℕ) → i < rowsOf o → ownAbsent i (rowOf o cs i) ≡ true
+unfolding validPattern allOwnAbsent
+own-absent o cs ok i h = all-at (λ k. ownAbsent k (rowOf o cs k)) i (rowsOf o) (and-right (validEntries o cs) (allOwnAbsent o cs) ok) h
 
 -- the rules of offsets
 module _ (o cs : List ℕ) (ok : validOffsets o cs ≡ true) where

@@ -1,0 +1,131 @@
+-- What the written pattern means: demand 3 of document 01.
+-- Assumes nothing.
+use mathlib.Core.Path.{_≡_, refl, sym, ap, _∙_}
+use mathlib.Core.Logic.{_≢_, _⊎_, inl, inr, _↔_}
+use mathlib.Core.List.{List, [], _++_}
+use mathlib.Core.Option.{Option, none, some}
+use Prim.Native.Nat.{ℕ, zero, suc, _+_, _-_, _≤_, _<_}
+use native.Mathlib.Nat.{not-suc-le-zero, le-of-suc-le-suc}
+use native.Mathlib.Omega.{arith}
+use lib.ListN.{length, getD, replicate, length-append, List·getD-append}
+use lib.Seq.{getD-append-add}
+use Rattle.patterns.specs.Pattern.{rowOf}
+use Rattle.walks.specs.Levels.{Pattern, levelOf}
+use Rattle.walks.specs.Nesting.{Nested}
+use Rattle.walks.proofs.Highest.{le-or-lt}
+use Rattle.walks.proofs.LevelLaws.{claim-computed}
+use Rattle.fill.specs.Fill.{columnAt, levelAt, columnsFrom, levelsFrom, fillColumns, startOf, splitAt, listed}
+use Rattle.fill.proofs.Lists.{columns-below}
+use Rattle.fill.proofs.GoingLaws.{part-of, behind, row-columns, start-more}
+
+-- j is one of the list's numbers
+abbrev pub In : ℕ → List ℕ → Type 0
+In j l = (e : ℕ) × (e < length l) × (getD l e 0 ≡ j)
+
+module _ (f : ℕ → Option ℕ) where
+  -- place e of the list: its column lies in the range, and has the level at place e
+  pub column-level : (c d e : ℕ) → e < length (columnsFrom f c d)
+      → (c ≤ getD (columnsFrom f c d) e 0) × (f (getD (columnsFrom f c d) e 0) ≡ some (getD (levelsFrom f c d) e 0))
+  unfolding columnsFrom levelsFrom
+  column-level c zero e h = absurd (not-suc-le-zero h)
+  column-level c (suc d) e h = go (f c) refl e h (λ x l. column-level (suc c) d x l)
+    where
+      go : (o : Option ℕ) → f c ≡ o → (e : ℕ) → e < length (columnAt o c ++ columnsFrom f (suc c) d)
+          → ((x : ℕ) → x < length (columnsFrom f (suc c) d) → (suc c ≤ getD (columnsFrom f (suc c) d) x 0) × (f (getD (columnsFrom f (suc c) d) x 0) ≡ some (getD (levelsFrom f (suc c) d) x 0)))
+          → (c ≤ getD (columnAt o c ++ columnsFrom f (suc c) d) e 0) × (f (getD (columnAt o c ++ columnsFrom f (suc c) d) e 0) ≡ some (getD (levelAt o ++ levelsFrom f (suc c) d) e 0))
+      go none q e h r = (omega (arith, r e h .0), r e h .1)
+      go (some l) q zero h r = (omega arith, q)
+      go (some l) q (suc e) h r = let x = r e (le-of-suc-le-suc h) in (omega (arith, x .0), x .1)
+
+  -- each column that has a level stands in it
+  pub column-stands : (c d j l : ℕ) → c ≤ j → j < c + d → f j ≡ some l → In j (columnsFrom f c d)
+  unfolding columnsFrom
+  column-stands c zero j l a b h = absurd (omega arith)
+  column-stands c (suc d) j l a b h = go (f c) refl (le-or-lt j c) (λ q. column-stands (suc c) d j l q (omega arith) h)
+    where
+      go : (o : Option ℕ) → f c ≡ o → (j ≤ c) ⊎ (c < j) → (suc c ≤ j → In j (columnsFrom f (suc c) d)) → In j (columnAt o c ++ columnsFrom f (suc c) d)
+      go none q (inl x) r =
+          let e : j ≡ c = omega arith in
+          let z : some l ≡ none = sym h ∙ rw e q in
+          let y : _≡_ {A = ℕ} 0 1 = cc in
+          absurd (omega arith)
+      go (some m) q (inl x) r = let e : j ≡ c = omega arith in (0, omega arith, sym e)
+      go none q (inr x) r = r x
+      go (some m) q (inr x) r = let y = r x in (suc (y .0), omega (arith, y .1), y .2)
+
+  -- the columns rise strictly
+  pub columns-rise : (c d e : ℕ) → suc e < length (columnsFrom f c d) → getD (columnsFrom f c d) e 0 < getD (columnsFrom f c d) (suc e) 0
+  unfolding columnsFrom
+  columns-rise c zero e h = absurd (not-suc-le-zero h)
+  columns-rise c (suc d) e h = go (f c) e h (λ x l. columns-rise (suc c) d x l) (λ x l. column-level (suc c) d x l .0)
+    where
+      go : (o : Option ℕ) (e : ℕ) → suc e < length (columnAt o c ++ columnsFrom f (suc c) d)
+          → ((x : ℕ) → suc x < length (columnsFrom f (suc c) d) → getD (columnsFrom f (suc c) d) x 0 < getD (columnsFrom f (suc c) d) (suc x) 0)
+          → ((x : ℕ) → x < length (columnsFrom f (suc c) d) → suc c ≤ getD (columnsFrom f (suc c) d) x 0)
+          → getD (columnAt o c ++ columnsFrom f (suc c) d) e 0 < getD (columnAt o c ++ columnsFrom f (suc c) d) (suc e) 0
+      go none e h r s = r e h
+      go (some l) zero h r s = s 0 (le-of-suc-le-suc h)
+      go (some l) (suc e) h r s = r e (le-of-suc-le-suc h)
+
+pub getD-listed : (f : ℕ → ℕ) (c d i : ℕ) → i < d → getD (listed f c d) i 0 ≡ f (c + i)
+unfolding listed
+getD-listed f c zero i h = absurd (not-suc-le-zero h)
+getD-listed f c (suc d) zero h = ap f (omega arith)
+getD-listed f c (suc d) (suc i) h = let e : c + suc i ≡ suc c + i = omega arith in rw e (getD-listed f (suc c) d i (le-of-suc-le-suc h))
+
+module _ (A : Pattern) (k n room : ℕ) where
+  -- the offsets, columns and splits that are written
+  abbrev pub offsetsW : List ℕ
+  offsetsW = listed (startOf A k n) 0 (n + 1)
+
+  abbrev pub columnsW : List ℕ
+  columnsW = fillColumns A k n n ++ replicate (room - startOf A k n n) 0
+
+  abbrev pub splitsW : List ℕ
+  splitsW = listed (splitAt A k n) 0 n
+
+  offset : (i : ℕ) → i ≤ n → getD offsetsW i 0 ≡ startOf A k n i
+  offset i h = let e : 0 + i ≡ i = omega arith in rw e at (getD-listed (startOf A k n) 0 (n + 1) i (omega arith))
+
+  -- row i is exactly the rising list of the columns that have a level
+  pub written-row : (i : ℕ) → i < n → rowOf offsetsW columnsW i ≡ columnsFrom (levelOf A k i) 0 n
+  unfolding rowOf startOf
+  written-row i h =
+      let b = behind A k n i n h in
+      let Z : List ℕ = replicate (room - startOf A k n n) 0 in
+      let q : columnsW ≡ (fillColumns A k n i ++ (([] ++ columnsFrom (levelOf A k i) 0 n) ++ b .0)) ++ Z = ap (λ (t : List ℕ). t ++ Z) (b .1) in
+      let e : startOf A k n (i + 1) ≡ startOf A k n i + length (columnsFrom (levelOf A k i) 0 n) = start-more A k n i in
+      rw (offset i (omega arith), offset (i + 1) (omega arith))
+      (part-of (fillColumns A k n i) [] (columnsFrom (levelOf A k i) 0 n) (b .0) Z columnsW (startOf A k n i) (startOf A k n (i + 1)) q (omega arith) e .0)
+
+  -- DEMAND 3: a column stands in row i exactly if a walk leads there whose in-between rows are lower than both, with nesting at most k
+  pub fill-walks : (i j : ℕ) → i < n → j < n → i ≢ j → In j (rowOf offsetsW columnsW i) ↔ ((w : List ℕ) × Nested A i j k w)
+  fill-walks i j hi hj ne = rw (written-row i hi) (
+    λ x. claim-computed A k i j ne .0 (getD (levelsFrom (levelOf A k i) 0 n) (x .0) 0, rw (x .2) at (column-level (levelOf A k i) 0 n (x .0) (x .1) .1)),
+    λ w. let l = claim-computed A k i j ne .1 w in column-stands (levelOf A k i) 0 n j (l .0) (omega arith) (omega arith) (l .1),
+  )
+
+  -- rows rise strictly
+  pub rows-rise : (i e : ℕ) → i < n → suc e < length (rowOf offsetsW columnsW i) → getD (rowOf offsetsW columnsW i) e 0 < getD (rowOf offsetsW columnsW i) (suc e) 0
+  rows-rise i e hi = rw (written-row i hi) (columns-rise (levelOf A k i) 0 n e)
+
+  -- the split is true: columns before it are lower than i, and those from it on exceed i
+  pub split-true : (i e : ℕ) → i < n → e < length (rowOf offsetsW columnsW i)
+      → (getD offsetsW i 0 + e < getD splitsW i 0 → getD (rowOf offsetsW columnsW i) e 0 < i) × (getD splitsW i 0 ≤ getD offsetsW i 0 + e → i < getD (rowOf offsetsW columnsW i) e 0)
+  unfolding splitAt
+  split-true i e hi =
+      let z : 0 + i ≡ i = omega arith in
+      let s : getD splitsW i 0 ≡ splitAt A k n i = rw z at (getD-listed (splitAt A k n) 0 n i hi) in
+      let f = levelOf A k i in
+      let lo = columnsFrom f 0 i in
+      let up = columnsFrom f (i + 1) (n - (i + 1)) in
+      rw (written-row i hi, s, offset i (omega arith), row-columns A k n i hi) (λ b. (
+        λ h. let y : e < length lo = omega arith in rw (List·getD-append lo up 0 e y) (omega (arith, columns-below f 0 i e y)),
+        λ h. above lo up e b (omega arith) (λ x q. column-level f (i + 1) (n - (i + 1)) x q .0),
+      ))
+    where
+      above : (lo up : List ℕ) (e : ℕ) → e < length (lo ++ up) → length lo ≤ e → ((x : ℕ) → x < length up → i + 1 ≤ getD up x 0) → i < getD (lo ++ up) e 0
+      above lo up e b h r =
+          let y : length lo + (e - length lo) ≡ e = omega arith in
+          let v = r (e - length lo) (omega (arith, length-append lo up)) in
+          rw (← y, getD-append-add lo up (e - length lo) 0) (omega (arith, v))

@@ -1,0 +1,96 @@
+-- What the functions above the loops need of a pivot and of A's row.
+-- Assumes nothing.
+use mathlib.Core.Path.{_≡_, refl, _∙_}
+use mathlib.Core.Logic.{_≢_}
+use mathlib.Core.List.{List}
+use mathlib.Core.Bool.{Bool, true, false}
+use Prim.Native.Nat.{ℕ, _+_, _-_, _≤_, _<_}
+use native.Mathlib.Omega.{arith}
+use lib.Dec.{ltb, eqb}
+use lib.ListN.{length, getD, take, drop, replicate, length-take, length-drop}
+use borrow.Author.Tests.{eq-eqb, ne-eqb, lt-ltb, le-ltb, eqb-true, eqb-false, ltb-true, ltb-false}
+use Rattle.patterns.specs.Pattern.{rowsOf, rowOf, ownAbsent, validEntries, validPattern}
+use Rattle.patterns.proofs.Use.{pattern-entries, own-absent, row-ends, valid-offsets, row-column-below}
+use Rattle.walks.specs.Levels.{Pattern, levelOf}
+use Rattle.fill.specs.Fill.{stored}
+use Rattle.fill.specs.Steps.{Levelled, spreadAll, loaded, Upper, Written, pivotStep, PivotFits}
+use Rattle.fill.proofs.Lists.{columns-below}
+use Rattle.fill.proofs.RowLaws.{skip-none, skip-high, spread-levelled, pivot-small, load-levelled}
+
+pub parts-same : (s e : ℕ) (cs ls : List ℕ) → e ≤ length cs → e ≤ length ls → length (take (e - s) (drop s cs)) ≡ length (take (e - s) (drop s ls))
+parts-same s e cs ls h h′ = simp (length-take, length-drop) (omega arith)
+
+module _ (k i p s e : ℕ) (cs ls row row′ : List ℕ) where
+  pub pivot-none : getD row p 0 ≡ 0 → row′ ≡ row → row′ ≡ pivotStep k i p s e cs ls row
+  unfolding pivotStep
+  pivot-none h q = q ∙ rw (eq-eqb _ _ h)
+
+  pub pivot-high : getD row p 0 ≢ 0 → k ≤ getD row p 0 - 1 → row′ ≡ row → row′ ≡ pivotStep k i p s e cs ls row
+  unfolding pivotStep
+  pivot-high h g q = q ∙ rw (ne-eqb _ _ h, le-ltb _ _ g)
+
+  pub pivot-spread : getD row p 0 ≢ 0 → getD row p 0 - 1 < k → row′ ≡ spreadAll k i (getD row p 0 - 1) (take (e - s) (drop s cs)) (take (e - s) (drop s ls)) row
+      → row′ ≡ pivotStep k i p s e cs ls row
+  unfolding pivotStep
+  pivot-spread h g q = q ∙ rw (ne-eqb _ _ h, lt-ltb _ _ g)
+
+module _ (A : Pattern) (k n i p s e : ℕ) (o cs ss ls row : List ℕ) (L : Levelled A k n p i row) (W : Written A k n i o cs ss ls) (hp : p < i) (hi : i < n)
+    (es : s ≡ getD ss p 0) (ee : e ≡ getD o (p + 1) 0) where
+  up : Upper A k n p s e cs ls
+  up = rw (es, ee) (W .upper p hp)
+
+  pub pivot-fits : n ≤ 65536 → PivotFits p row s e cs ls
+  pivot-fits h = record {
+    in-row = omega (arith, L .long);
+    ordered = up .ordered;
+    in-columns = up .in-columns;
+    in-levels = up .in-levels;
+    below = λ x b. small x b;
+    small = omega (arith, pivot-small A k n p i row L hp hi);
+  }
+    where
+      small : (x : ℕ) → x < length (take (e - s) (drop s cs)) → getD (take (e - s) (drop s cs)) x 0 < length row
+      small x b =
+          let q = columns-below (levelOf A k p) (p + 1) (n - (p + 1)) x (rw (up .columns) at b) in
+          rw (up .columns) (omega (arith, q, L .long))
+
+  pub pivot-levelled : (row′ : List ℕ) → row′ ≡ pivotStep k i p s e cs ls row → Levelled A k n (p + 1) i row′
+  unfolding pivotStep
+  pivot-levelled row′ q = go (eqb (getD row p 0) 0) refl (ltb (getD row p 0 - 1) k) refl
+    where
+      go : (x : Bool) → eqb (getD row p 0) 0 ≡ x → (y : Bool) → ltb (getD row p 0 - 1) k ≡ y → Levelled A k n (p + 1) i row′
+      go true u y v = let z : row′ ≡ row = q ∙ rw u in rw z (skip-none A k n p i row L hp hi (eqb-true _ _ u))
+      go false u false v =
+          let z : row′ ≡ row = q ∙ rw (u, v) in
+          let w : getD row p 0 ≢ 0 = eqb-false _ _ u in
+          rw z (skip-high A k n p i row L hp hi (getD row p 0) refl (omega (arith, w)) (ltb-false _ _ v))
+      go false u true v =
+          let z : row′ ≡ spreadAll k i (getD row p 0 - 1) (take (e - s) (drop s cs)) (take (e - s) (drop s ls)) row = q ∙ rw (u, v) in
+          let w : getD row p 0 ≢ 0 = eqb-false _ _ u in
+          spread-levelled A k n p i row L hp hi (getD row p 0) (take (e - s) (drop s cs)) (take (e - s) (drop s ls)) row′ refl (omega (arith, w)) (ltb-true _ _ v) (up .columns) (up .levels) z
+
+-- row i of A, at the places a .. b of its columns
+module _ (i a b : ℕ) (ao ac : List ℕ) (ok : validPattern ao ac ≡ true) (hi : i < rowsOf ao) (ea : a ≡ getD ao i 0) (eb : b ≡ getD ao (i + 1) 0) where
+  entries : validEntries ao ac ≡ true
+  entries = pattern-entries ao ac ok
+
+  pub part-ends : (a ≤ b) × (b ≤ length ac)
+  part-ends = rw (ea, eb) (row-ends ao ac (valid-offsets ao ac entries) i hi)
+
+  part-is : take (b - a) (drop a ac) ≡ rowOf ao ac i
+  unfolding rowOf
+  part-is = rw (ea, eb)
+
+  pub part-below : (x : ℕ) → x < length (take (b - a) (drop a ac)) → getD (take (b - a) (drop a ac)) x 0 < rowsOf ao
+  part-below = rw part-is (λ x h. row-column-below ao ac entries i x hi h)
+
+  pub row-levelled : (k : ℕ) (row row′ : List ℕ) → row ≡ replicate (rowsOf ao) 0 → row′ ≡ loaded (take (b - a) (drop a ac)) row
+      → Levelled (stored ao ac) k (rowsOf ao) 0 i row′
+  unfolding ownAbsent
+  row-levelled k row row′ er e = load-levelled k (rowsOf ao) i ao ac (take (b - a) (drop a ac)) row row′ (own-absent ao ac ok i hi) part-is er e
+
+pub levelled-as : {A : Pattern} {k m n p i : ℕ} {row : List ℕ} → m ≡ n → Levelled A k n p i row → Levelled A k m p i row
+levelled-as e L = rw e L
+
+pub levelled-at : {A : Pattern} {k n p q i : ℕ} {row : List ℕ} → p ≡ q → Levelled A k n p i row → Levelled A k n q i row
+levelled-at e L = rw (← e) L
