@@ -18,8 +18,9 @@ use Rattle.walks.specs.Levels.{Pattern, levelOf}
 use Rattle.walks.proofs.Highest.{le-or-lt}
 use Rattle.patterns.specs.Pattern.{rowsOf, validPattern}
 use Rattle.fill.specs.Fill.{stored, columnsFrom, levelsFrom, fillColumns, fillLevels, startOf, splitAt, listed}
-use Rattle.fill.specs.Steps.{levelsIn, Levelled, over, put, Upper, Written, RowReady, PutFits, Going, Filled}
+use Rattle.fill.specs.Steps.{levelsIn, Levelled, over, put, Upper, Written, Worked, RowReady, PutFits, Going, Filled}
 use Rattle.fill.proofs.Lists.{columns-add, levels-add, columns-same, levels-same, same-count, over-none, length-over, over-add}
+use Rattle.fill.proofs.SpanLaws.{columns-after}
 use Rattle.fill.proofs.RowLaws.{row-level, row-small}
 
 getD-done : (f : ℕ → ℕ → ℕ) (m : ℕ) (l : List ℕ) (i d : ℕ) → i < m → i < length l → getD (eachTo f m l) i d ≡ f i (getD l i d)
@@ -196,25 +197,32 @@ module _ (A : Pattern) (k n : ℕ) where
           rw (es, eo, G .columns-are, G .levels-are) (upper-at i p cs₀ ls₀ h (G .rows));
     }
 
-    module _ (row₁ : List ℕ) (L : Levelled A k n i i row₁) (hi : i < n) where
+    module _ (low high : ℕ) (row₁ : List ℕ) (K : Worked A k n i low high row₁) (hi : i < n) where
+      L : Levelled A k n i i row₁
+      L = K .levelled
+
       same-columns : (m : ℕ) → m ≤ n → columnsFrom (levelsIn row₁) 0 m ≡ columnsFrom (levelOf A k i) 0 m
       same-columns m h = columns-same (levelsIn row₁) (levelOf A k i) 0 m (λ j _ b. row-level A k n i row₁ L j (omega arith))
 
       same-levels : levelsFrom (levelsIn row₁) 0 n ≡ levelsFrom (levelOf A k i) 0 n
       same-levels = levels-same (levelsIn row₁) (levelOf A k i) 0 n (λ j _ b. row-level A k n i row₁ L j (omega arith))
 
+      -- the marks below the span's end are all
+      counted : (all : ℕ) → all ≡ length (columnsFrom (levelsIn row₁) 0 high) → all ≡ length (columnsFrom (levelsIn row₁) 0 (length row₁))
+      counted all ea = ea ∙ ap length (columns-after row₁ high high (length row₁) (K .within .after) (omega arith) (omega (arith, L .long, K .in-row)))
+
       -- it does not fit
-      pub going-full : (all : ℕ) (o′ cs′ ss′ ls′ row′ : List ℕ) → all ≡ length (columnsFrom (levelsIn row₁) 0 (length row₁)) → length cs - at < all → Filled A k n cs₀ ls₀ false o′ cs′ ss′ ls′ row′
+      pub going-full : (all : ℕ) (o′ cs′ ss′ ls′ row′ : List ℕ) → all ≡ length (columnsFrom (levelsIn row₁) 0 high) → length cs - at < all → Filled A k n cs₀ ls₀ false o′ cs′ ss′ ls′ row′
       going-full all o′ cs′ ss′ ls′ row′ ea h =
           let c : columnsFrom (levelsIn row₁) 0 (length row₁) ≡ columnsFrom (levelOf A k i) 0 n = rw (L .long) (same-columns n (omega arith)) in
           record {
-            answer = sym (lt-leb (startOf A k n n) (length cs₀) (omega (arith, ea, ap length c, start-le i n hi, G .at-is, G .fits, going-columns-long)));
+            answer = sym (lt-leb (startOf A k n n) (length cs₀) (omega (arith, counted all ea, ap length c, start-le i n hi, G .at-is, G .fits, going-columns-long)));
             done = λ e. let z : _≡_ {A = ℕ} 0 1 = cc in absurd (omega arith);
           }
 
       -- it fits
-      pub going-fits : (all : ℕ) → all ≡ length (columnsFrom (levelsIn row₁) 0 (length row₁)) → all ≤ length cs - at → n ≤ 65536 → length cs₀ ≤ 65535
-          → PutFits i at o cs ss ls row₁
+      pub going-fits : (all : ℕ) → all ≡ length (columnsFrom (levelsIn row₁) 0 high) → all ≤ length cs - at → n ≤ 65536 → length cs₀ ≤ 65535
+          → PutFits i at all low high o cs ss ls row₁
       going-fits all ea h few room = record {
         in-row = omega (arith, L .long);
         few = omega (arith, L .long);
@@ -223,12 +231,16 @@ module _ (A : Pattern) (k n : ℕ) where
         levels-long = going-levels-long ∙ sym going-columns-long;
         room = omega (arith, going-columns-long);
         small = λ j b. row-small A k n i row₁ L j (omega (arith, L .long));
-        fits = omega (arith, ea, h, G .fits, going-columns-long);
+        within = K .within;
+        ordered = K .ordered;
+        span-in-row = omega (arith, L .long, K .in-row);
+        all-is = counted all ea;
+        fits = omega (arith, h, G .fits, going-columns-long);
       }
 
-      pub going-more : (all : ℕ) (o′ cs′ ss′ ls′ row′ : List ℕ) → all ≡ length (columnsFrom (levelsIn row₁) 0 (length row₁)) → all ≤ length cs - at
+      pub going-more : (all : ℕ) (o′ cs′ ss′ ls′ row′ : List ℕ) → all ≡ length (columnsFrom (levelsIn row₁) 0 high) → all ≤ length cs - at
           → cs′ ≡ put at (columnsFrom (levelsIn row₁) 0 (length row₁)) cs → ls′ ≡ put at (levelsFrom (levelsIn row₁) 0 (length row₁)) ls
-          → ss′ ≡ set ss i (at + length (columnsFrom (levelsIn row₁) 0 i)) → o′ ≡ set o (i + 1) (at + length (columnsFrom (levelsIn row₁) 0 (length row₁)))
+          → ss′ ≡ set ss i (at + length (columnsFrom (levelsIn row₁) 0 i)) → o′ ≡ set o (i + 1) (at + all)
           → row′ ≡ replicate (length row₁) 0 → Going A k n (i + 1) (at + all) o₀ cs₀ ss₀ ls₀ o′ cs′ ss′ ls′ row′
       unfolding put startOf splitAt fillColumns fillLevels
       going-more all o′ cs′ ss′ ls′ row′ ea h ec el es eo er =
@@ -236,7 +248,7 @@ module _ (A : Pattern) (k n : ℕ) where
           let M = fillLevels A k n i in
           let c : columnsFrom (levelsIn row₁) 0 (length row₁) ≡ columnsFrom (levelOf A k i) 0 n = rw (L .long) (same-columns n (omega arith)) in
           let v : levelsFrom (levelsIn row₁) 0 (length row₁) ≡ levelsFrom (levelOf A k i) 0 n = rw (L .long) same-levels in
-          let next : at + all ≡ startOf A k n (i + 1) = omega (arith, start-more i, ea, ap length c, G .at-is) in
+          let next : at + all ≡ startOf A k n (i + 1) = omega (arith, start-more i, counted all ea, ap length c, G .at-is) in
           let s : at ≡ length F = G .at-is in
           let s′ : at ≡ length M = G .at-is ∙ sym (levels-count i) in
           record {
@@ -246,7 +258,7 @@ module _ (A : Pattern) (k n : ℕ) where
             levels-long = G .levels-long;
             at-is = next;
             fits = omega (arith, h, G .fits, going-columns-long);
-            offsets-are = eo ∙ rw (← ea, next, G .offsets-are) (each-more (λ r _. startOf A k n r) (i + 1) o₀ 0 (omega (arith, G .offsets-long)));
+            offsets-are = eo ∙ rw (next, G .offsets-are) (each-more (λ r _. startOf A k n r) (i + 1) o₀ 0 (omega (arith, G .offsets-long)));
             splits-are = es ∙ rw (same-columns i (omega arith), G .at-is, G .splits-are) (each-more (λ r _. splitAt A k n r) i ss₀ 0 (omega (arith, G .splits-long)));
             columns-are = ec ∙ rw (c, G .columns-are, s, add-one) (over-add F (columnsFrom (levelOf A k i) 0 n) cs₀ (omega (arith, s, G .fits)));
             levels-are = el ∙ rw (v, G .levels-are, s′, add-one) (over-add M (levelsFrom (levelOf A k i) 0 n) ls₀ (omega (arith, s′, G .fits, G .levels-long)));
@@ -275,11 +287,7 @@ pub going-ready : (ao ac : List ℕ) (k n : ℕ) {i at : ℕ} {o₀ cs₀ ss₀ 
 going-ready ao ac k n {row = row} G hi few same ok =
     let e : length row ≡ n = ap length (G .clear) ∙ length-replicate n 0 in
     record {
-      rows = same ∙ sym e;
-      valid = ok;
-      in-row = omega (arith, e);
-      few = omega (arith, e);
-      clear = rw e (G .clear);
+      loadable = record { rows = same ∙ sym e; valid = ok; in-row = omega (arith, e); few = omega (arith, e); clear = rw e (G .clear) };
       written = rw e (going-written (stored ao ac) k n G);
     }
 

@@ -1,14 +1,16 @@
 -- A row that is scanned upward.
 -- Assumes nothing.
 use mathlib.Core.Path.{_≡_, refl, ap, _∙_}
-use mathlib.Core.Logic.{_≢_}
+use mathlib.Core.Logic.{_≢_, _⊎_, inl, inr}
 use mathlib.Core.List.{List, [], _∷_, _++_, append-nil}
 use mathlib.Core.Option.{some}
-use Prim.Native.Nat.{ℕ, zero, suc, _+_, _-_, _≤_, _<_}
+use Prim.Native.Nat.{ℕ, zero, suc, _+_, _-_, _≤_, _<_, max}
 use native.Mathlib.Omega.{arith}
 use lib.ListN.{length, getD, set, length-append}
+use Rattle.walks.proofs.Highest.{le-or-lt}
 use Rattle.fill.specs.Fill.{columnsFrom, levelsFrom}
 use Rattle.fill.specs.Steps.{levelIn, levelsIn, over}
+use Rattle.fill.proofs.SpanLaws.{columns-before}
 use Rattle.fill.proofs.Lists.{columns-one, levels-one, fewer, same-count, over-more}
 
 is-some : (w : ℕ) → w ≢ 0 → levelIn w ≡ some (w - 1)
@@ -44,3 +46,14 @@ module _ (row : List ℕ) (j : ℕ) where
   write-level at s s₀ h e b inv =
       let q : at ≡ length (levelsFrom (levelsIn row) 0 j) = e ∙ same-count (levelsIn row) 0 j in
       rw (inv, q, levels-hit h) (over-more (levelsFrom (levelsIn row) 0 j) s₀ (getD row j 0 - 1) (omega (arith, q)))
+
+-- a count that began at the span's low end
+pub count-to : (row : List ℕ) (low j to found : ℕ) → ((x : ℕ) → x < low → getD row x 0 ≡ 0) → low ≤ j → j ≤ max low to → to ≤ j
+    → found ≡ length (columnsFrom (levelsIn row) 0 j) → found ≡ length (columnsFrom (levelsIn row) 0 to)
+count-to row low j to found before a b c e = go (le-or-lt low to)
+  where
+    go : (low ≤ to) ⊎ (to < low) → found ≡ length (columnsFrom (levelsIn row) 0 to)
+    go (inl h) = let q : j ≡ to = omega arith in rw q at e
+    go (inr h) =
+        let q : j ≡ low = omega arith in
+        e ∙ rw (q, columns-before row low low before (omega arith), columns-before row low to before (omega arith))

@@ -88,17 +88,54 @@ pub record PivotFits (p : ℕ) (row : List ℕ) (s e : ℕ) (cs ls : List ℕ) :
   pub below : (x : ℕ) → x < length (take (e - s) (drop s cs)) → getD (take (e - s) (drop s cs)) x 0 < length row
   pub small : getD row p 0 ≤ 65536
 
--- row i can be worked: A is valid, the rows before i are written, the row is clear
-pub record RowReady (ao ac : List ℕ) (k i : ℕ) (row o cs ss ls : List ℕ) : Type 0 where
+-- The marks of a row lie from low on and below high.
+pub record Within (low high : ℕ) (row : List ℕ) : Type 0 where
+  pub before : (j : ℕ) → j < low → getD row j 0 ≡ 0
+  pub after : (j : ℕ) → high ≤ j → getD row j 0 ≡ 0
+
+-- so do the first m columns of a list
+abbrev pub Spans : ℕ → ℕ → List ℕ → ℕ → Type 0
+Spans low high cs m = (x : ℕ) → x < m → (low ≤ getD cs x 0) × (getD cs x 0 < high)
+
+-- the end of a span that takes in the last of rising columns
+unfoldable pub endOf : List ℕ → ℕ → ℕ
+endOf cs high = cond (eqb (length cs) 0) high (max high (getD cs (length cs - 1) 0 + 1))
+
+-- the end of the row's span after the pivot p
+unfoldable pub pivotHigh : ℕ → ℕ → ℕ → ℕ → List ℕ → List ℕ → ℕ → ℕ
+unfolding endOf
+pivotHigh k p s e cs row high =
+    cond (eqb (getD row p 0) 0) high (cond (ltb (getD row p 0 - 1) k) (endOf (take (e - s) (drop s cs)) high) high)
+
+-- row i of A can be loaded: A is valid, and the row is clear
+pub record Loadable (ao ac : List ℕ) (i : ℕ) (row : List ℕ) : Type 0 where
   pub rows : rowsOf ao ≡ length row
   pub valid : validPattern ao ac ≡ true
   pub in-row : i < length row
   pub few : length row ≤ 65536
   pub clear : row ≡ replicate (length row) 0
+
+-- and worked, since the rows before it are written
+pub record RowReady (ao ac : List ℕ) (k i : ℕ) (row o cs ss ls : List ℕ) : Type 0 where
+  pub loadable : Loadable ao ac i row
   pub written : Written (stored ao ac) k (length row) i o cs ss ls
 
--- row i can be written at `at`
-pub record PutFits (i at : ℕ) (o cs ss ls row : List ℕ) : Type 0 where
+-- row i of A is loaded, and its marks lie within a span
+pub record Started (A : Pattern) (n i low high : ℕ) (row : List ℕ) : Type 0 where
+  pub levelled : (k : ℕ) → Levelled A k n 0 i row
+  pub within : Within low high row
+  pub ordered : low ≤ high
+  pub in-row : high ≤ n
+
+-- all pivots have given row i what they give
+pub record Worked (A : Pattern) (k n i low high : ℕ) (row : List ℕ) : Type 0 where
+  pub levelled : Levelled A k n i i row
+  pub within : Within low high row
+  pub ordered : low ≤ high
+  pub in-row : high ≤ n
+
+-- row i can be written at `at`, and has `all` marks within a span
+pub record PutFits (i at all low high : ℕ) (o cs ss ls row : List ℕ) : Type 0 where
   pub in-row : i < length row
   pub few : length row ≤ 65536
   pub offsets-long : length o ≡ length row + 1
@@ -106,7 +143,11 @@ pub record PutFits (i at : ℕ) (o cs ss ls row : List ℕ) : Type 0 where
   pub levels-long : length ls ≡ length cs
   pub room : length cs ≤ 65535
   pub small : (j : ℕ) → j < length row → getD row j 0 ≤ j + 1
-  pub fits : at + length (columnsFrom (levelsIn row) 0 (length row)) ≤ length cs
+  pub within : Within low high row
+  pub ordered : low ≤ high
+  pub span-in-row : high ≤ length row
+  pub all-is : all ≡ length (columnsFrom (levelsIn row) 0 (length row))
+  pub fits : at + all ≤ length cs
 
 -- l written over s from `at` on
 unfoldable pub put : ℕ → List ℕ → List ℕ → List ℕ
