@@ -293,3 +293,6 @@ going-ready ao ac k n {row = row} G hi few same ok =
 
 pub going-long : {A : Pattern} {k n i at : ℕ} {o₀ cs₀ ss₀ ls₀ o cs ss ls row : List ℕ} → Going A k n i at o₀ cs₀ ss₀ ls₀ o cs ss ls row → length row ≡ n
 going-long {n = n} G = ap length (G .clear) ∙ length-replicate n 0
+
+pub worked-as : {A : Pattern} {k m n i low high : ℕ} {row : List ℕ} → m ≡ n → Worked A k n i low high row → Worked A k m i low high row
+worked-as e W = rw e W

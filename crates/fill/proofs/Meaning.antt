@@ -1,9 +1,8 @@
 -- What the written pattern means: demand 3 of document 01.
 -- Assumes nothing.
-use mathlib.Core.Path.{_≡_, refl, sym, ap, _∙_}
-use mathlib.Core.Logic.{_≢_, _⊎_, inl, inr, _↔_}
+use mathlib.Core.Path.{_≡_, ap}
+use mathlib.Core.Logic.{_≢_, _↔_}
 use mathlib.Core.List.{List, [], _++_}
-use mathlib.Core.Option.{Option, none, some}
 use Prim.Native.Nat.{ℕ, zero, suc, _+_, _-_, _≤_, _<_}
 use native.Mathlib.Nat.{not-suc-le-zero, le-of-suc-le-suc}
 use native.Mathlib.Omega.{arith}
@@ -12,9 +11,8 @@ use lib.Seq.{getD-append-add}
 use Rattle.patterns.specs.Pattern.{rowOf}
 use Rattle.walks.specs.Levels.{Pattern, levelOf}
 use Rattle.walks.specs.Nesting.{Nested}
-use Rattle.walks.proofs.Highest.{le-or-lt}
 use Rattle.walks.proofs.LevelLaws.{claim-computed}
-use Rattle.fill.specs.Fill.{columnAt, levelAt, columnsFrom, levelsFrom, fillColumns, startOf, splitAt, listed}
+use Rattle.fill.specs.Fill.{columnsFrom, levelsFrom, fillColumns, startOf, splitAt, listed}
 use Rattle.fill.proofs.ColumnLaws.{In, column-level, column-stands, columns-rise}
 use Rattle.fill.proofs.Lists.{columns-below}
 use Rattle.fill.proofs.GoingLaws.{part-of, behind, row-columns, start-more}

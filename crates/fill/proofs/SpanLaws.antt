@@ -1,7 +1,7 @@
 -- The marks of a row lie within a span: what writes keep it, and what need not be scanned outside it.
 -- Assumes nothing.
 use mathlib.Core.Path.{_≡_, refl, sym, ap, _∙_}
-use mathlib.Core.Logic.{_⊎_, inl, inr, ⊎-elim}
+use mathlib.Core.Logic.{_⊎_, inl, inr}
 use mathlib.Core.List.{List, [], _∷_, _++_, append-nil}
 use mathlib.Core.Bool.{Bool, true, false, not, _&&_, cond}
 use mathlib.Core.Option.{Option, none}
@@ -12,11 +12,10 @@ use native.Mathlib.Omega.{arith}
 use lib.Dec.{ltb, eqb}
 use lib.ListN.{length, getD, set, take, drop, replicate}
 use lib.Seq.{getD-set-other}
-use borrow.Author.Tests.{eqb-true, eqb-false}
 use Rattle.base.proofs.Iterate.{iterate-keeps}
 use Rattle.walks.specs.Levels.{Pattern}
 use Rattle.fill.specs.Fill.{columnsFrom, levelsFrom}
-use Rattle.fill.specs.Steps.{levelIn, levelsIn, Levelled, least, spreadOne, spreadAll, loadOne, loaded, Within, Spans, endOf, pivotStep, pivotHigh}
+use Rattle.fill.specs.Steps.{levelIn, levelsIn, Levelled, least, spreadOne, spreadAll, loadOne, loaded, Within, Spans}
 use Rattle.fill.proofs.Lists.{columns-add, levels-add}
 use Rattle.fill.proofs.RowLaws.{skip-none}
 

@@ -135,7 +135,10 @@ fn span_of(columns: &[u32], n: usize) -> Span
         high = greater(high, column + 1);
         e += 1;
     }
-    Span { low: low, high: greater(low, high) }
+    Span {
+        low: low,
+        high: greater(low, high),
+    }
 }
 
 // A's entries have level 0.
@@ -249,7 +252,10 @@ pub fn row_levels(
         high = take_pivot(row, i, k, p, s, e, columns, levels, high);
         p += 1;
     }
-    Span { low: low, high: high }
+    Span {
+        low: low,
+        high: high,
+    }
 }
 
 // Row i, which has `all` marks, is written out at `at` with its split and its end, and cleared.

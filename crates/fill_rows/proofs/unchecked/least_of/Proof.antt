@@ -1,7 +1,7 @@
+-- `unchecked::least_of` meets its promise: the lesser word, where 0 is none.
+-- Assumes nothing.
 use Rattle.fill.proofs.LevelLaws.{least-left, least-right}
-use mathlib.Core.Path.{_≡_, refl}
-use mathlib.Core.List.{List}
-use Prim.Native.Nat.{ℕ, zero, suc, _-_}
+use mathlib.Core.Path.{refl}
 use borrow.Author.Needs.{needs}
 use Rattle.fill_rows.proofs.unchecked.least_of.Statement.{statement}
 use Rattle.fill_rows.proofs.unchecked.least_of.Tie as tie

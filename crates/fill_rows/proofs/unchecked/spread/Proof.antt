@@ -1,6 +1,7 @@
+-- `unchecked::spread` meets its promise: what is left of the pivot's entries leads where all of them lead.
+-- Assumes nothing.
 use mathlib.Core.Path.{_≡_, refl}
-use mathlib.Core.List.{List}
-use Prim.Native.Nat.{ℕ, zero, suc, _-_, _≤_}
+use Prim.Native.Nat.{_-_, _≤_}
 use native.Mathlib.Omega.{arith}
 use lib.ListN.{length, drop}
 use Rattle.fill.specs.Steps.{spreadAll}

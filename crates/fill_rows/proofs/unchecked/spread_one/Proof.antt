@@ -1,6 +1,5 @@
-use mathlib.Core.Path.{_≡_, refl}
-use mathlib.Core.List.{List}
-use Prim.Native.Nat.{ℕ, zero, suc, _-_}
+-- `unchecked::spread_one` meets its promise: one entry of the pivot is taken to the row.
+-- Assumes nothing.
 use borrow.Author.Tests.{le-ltb, lt-ltb, eq-eqb, ne-eqb}
 use Rattle.fill.specs.Steps.{spreadOne}
 use borrow.Author.Needs.{needs}

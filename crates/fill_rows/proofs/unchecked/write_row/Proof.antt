@@ -1,6 +1,7 @@
+-- `unchecked::write_row` meets its promise: after each turn the marks below j are written.
+-- Assumes nothing.
 use mathlib.Core.Path.{_≡_, refl}
-use mathlib.Core.List.{List}
-use Prim.Native.Nat.{ℕ, zero, suc, _-_, _≤_}
+use Prim.Native.Nat.{_-_, _≤_}
 use native.Mathlib.Omega.{arith}
 use lib.ListN.{length}
 use Rattle.fill.specs.Fill.{columnsFrom, levelsFrom}
@@ -67,9 +68,10 @@ returns c = let at = c .before in
     let a = at .before .args in
     let e : at .loop .j ≡ a .high = omega arith in
     let r = a .row .now in
-    let f = at .before .pre in
-    (rw (columns-after r (a .high) (a .high) (length r) (f .1 .0 .1) (omega arith) (search needs)) at (rw e at (at .loop .inv .4)),
-     rw (levels-after r (a .high) (a .high) (length r) (f .1 .0 .1) (omega arith) (search needs)) at (rw e at (at .loop .inv .5)))
+    let f = at .before .pre in (
+      rw (columns-after r (a .high) (a .high) (length r) (f .1 .0 .1) (omega arith) (search needs)) at (rw e at (at .loop .inv .4)),
+      rw (levels-after r (a .high) (a .high) (length r) (f .1 .0 .1) (omega arith) (search needs)) at (rw e at (at .loop .inv .5)),
+    )
 
 pub write-row-spec : {M : Type 1} → statement M
 write-row-spec =

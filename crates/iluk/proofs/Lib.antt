@@ -1,0 +1,3 @@
+-- The ways out of the call, and what its promise says.
+-- Assumes nothing.
+pub mod AnswerLaws
