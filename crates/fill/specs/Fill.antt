@@ -1,4 +1,4 @@
--- The fill of document 01: the pattern that `initialize_iluk` writes.
+-- The fill of a pattern at level k: rows of the columns that have a level, their offsets and their splits.
 -- Definitions only.
 use mathlib.Core.List.{List, [], _∷_, _++_}
 use mathlib.Core.Bool.{not}
@@ -13,10 +13,12 @@ unfoldable pub stored : List ℕ → List ℕ → Pattern
 unfolding absentTo rowOf
 stored o cs i j = not (absentTo (rowOf o cs i) j (length (rowOf o cs i)))
 
+-- a column that has a level, as a list of one, and none otherwise
 abbrev pub columnAt : Option ℕ → ℕ → List ℕ
 columnAt none c = []
 columnAt (some l) c = c ∷ []
 
+-- its level likewise
 abbrev pub levelAt : Option ℕ → List ℕ
 levelAt none = []
 levelAt (some l) = l ∷ []

@@ -1,3 +1,5 @@
 -- The ways out of the call, and what its promise says.
 -- Assumes nothing.
 pub mod AnswerLaws
+pub mod CheckOrder
+pub mod Demand
