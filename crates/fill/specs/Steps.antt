@@ -1,4 +1,4 @@
--- What each step of `initialize_iluk` does to the lent words.
+-- What each step of `initialize_iluk` does to the lent words: for the promises of the functions inside. No public promise cites these.
 -- Definitions only.
 use mathlib.Core.Path.{_≡_}
 use mathlib.Core.List.{List, [], _∷_, _++_}

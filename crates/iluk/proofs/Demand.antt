@@ -1,24 +1,17 @@
 -- What the promise of `initialize_iluk` says of a call that is done: row i holds j exactly if a nested walk leads from i to j.
 -- Assumes nothing.
-use mathlib.Core.Path.{_≡_, refl, sym, ap, _∙_}
+use mathlib.Core.Path.{_≡_}
 use mathlib.Core.Logic.{_≢_, _↔_}
 use mathlib.Core.List.{List}
 use Prim.Native.Nat.{ℕ, suc, _+_, _≤_, _<_}
-use native.Mathlib.Omega.{arith}
 use lib.ListN.{length, getD}
-use Rattle.answers.specs.declared.Answer.{Answer}
 use Rattle.answers.specs.declared.Answer.the-variants.{Done}
-use Rattle.answers.specs.Numbers.{numberOf}
-use Rattle.answers.proofs.SameAnswer.{same-number}
-use Rattle.answers.proofs.EndLaws.{unnamed-number}
 use Rattle.patterns.specs.Pattern.{rowsOf, rowOf}
 use Rattle.walks.specs.Levels.{levelOf}
 use Rattle.walks.specs.Nesting.{Nested}
 use Rattle.fill.specs.Fill.{stored, columnsFrom, fillOffsets, fillSplits}
-use Rattle.fill.specs.Promise.{leaves}
 use Rattle.fill.proofs.ColumnLaws.{In}
 use Rattle.fill.proofs.Meaning.{written-row, fill-walks, rows-rise, split-true}
-use Rattle.iluk.specs.Checks.{ilukChecks}
 use Rattle.iluk.specs.Iluk.{Initialized}
 
 module _ (k : ℕ) (starts entries offsets columns splits levels row offsets′ columns′ splits′ levels′ row′ : List ℕ)

@@ -3,3 +3,4 @@
 pub mod AnswerLaws
 pub mod CheckOrder
 pub mod Demand
+pub mod Agreement

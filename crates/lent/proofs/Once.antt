@@ -1,7 +1,7 @@
 -- One block alone: where each slice is one block or one row, the loops leave the operation's result.
 -- Assumes nothing.
 use mathlib.Core.Path.{_≡_, refl, sym, ap, _∙_, subst}
-use mathlib.Core.List.{List, [], _∷_, append-nil}
+use mathlib.Core.List.{List, append-nil}
 use mathlib.Core.Bool.{Bool, true, false, cond}
 use Prim.Native.Nat.{ℕ, zero, suc, _*_, _≤_}
 use native.Mathlib.Omega.{arith}
@@ -10,7 +10,7 @@ use lib.Seq.{take-all}
 use lib.Ieee.{Float, Format}
 use Rattle.base.specs.Iterate.{steps, iterate}
 use Rattle.answers.specs.declared.Answer.{Answer}
-use Rattle.blocks.specs.Block.{listed, product, applied}
+use Rattle.blocks.specs.Block.{product, applied}
 use Rattle.blocks.specs.Inverse.{inverse, singular}
 use Rattle.blocks.specs.Lent.{valuesAt, blockAt, vectorAt, putAt}
 use Rattle.blocks.proofs.ListedLaws.{length-listed}

@@ -1,6 +1,6 @@
 -- What a matrix that fits gives to the work on each of its rows.
 -- Assumes nothing.
-use mathlib.Core.Path.{_≡_, refl, sym, ap, _∙_}
+use mathlib.Core.Path.{_≡_, ap, _∙_}
 use mathlib.Core.List.{List}
 use mathlib.Core.Bool.{true}
 use Prim.Native.Nat.{ℕ, _+_, _-_, _*_, _≤_, _<_}
@@ -9,7 +9,7 @@ use native.Mathlib.Omega.{arith}
 use lib.ListN.{length, getD, take, drop}
 use lib.Ieee.{Float, Format}
 use Rattle.base.proofs.Sizes.{part-fits}
-use Rattle.patterns.specs.Pattern.{rowsOf, rowOf, validOffsets, validEntries}
+use Rattle.patterns.specs.Pattern.{rowsOf, rowOf, validEntries}
 use Rattle.patterns.proofs.Use.{pattern-entries, valid-offsets, row-ends, row-length, row-column-below}
 use Rattle.matrix.specs.Product.{multRow}
 use Rattle.matrix.specs.Steps.{scaleAddRowAt, scaledFrom}

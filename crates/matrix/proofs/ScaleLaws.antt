@@ -1,11 +1,11 @@
 -- y scaled from a place on: at the first place that is all of y, and a row that is scaled, added to and put back moves the place on by a row.
 -- Assumes nothing.
 use mathlib.Core.Path.{_≡_, refl, sym, ap, _∙_}
-use mathlib.Core.List.{List, [], _∷_, _++_, append-nil, append-assoc}
-use Prim.Native.Nat.{ℕ, zero, suc, _+_, _*_, _≤_, _<_}
+use mathlib.Core.List.{List, [], _∷_, _++_, append-nil}
+use Prim.Native.Nat.{ℕ, zero, suc, _+_, _*_, _≤_}
 use native.Mathlib.Omega.{arith}
 use lib.ListN.{length, getD, take, drop, length-append, length-drop, drop-of-length-le}
-use lib.Seq.{take-all, take-at, drop-at, drop-drop, take-length, length-take-le, take-paste, drop-paste}
+use lib.Seq.{take-all, take-at, drop-at, drop-drop, length-take-le, take-paste, drop-paste}
 use lib.Ieee.{Float, Format, nan, mul}
 use Rattle.base.specs.Each.{each}
 use Rattle.blocks.specs.Block.{listed, scaled}

@@ -123,7 +123,7 @@ fn add_entry_3(
     add_product_3(t, alpha, values, first + k, x, row[k] as usize)
 }
 
-// Four entries in a turn are up to a twentieth faster where the values do not stay in the nearest cache.
+// Four entries in a turn: some 4 % less time at 4,096 rows of a plate, and none less at 1,024.
 fn add_four_3(
     t: [f64; 3],
     alpha: f64,

@@ -2,10 +2,10 @@
 -- Assumes nothing.
 use mathlib.Core.Path.{_≡_, refl, sym, _∙_}
 use mathlib.Core.List.{List, [], _++_}
-use mathlib.Core.Bool.{Bool, true, false, not, _&&_, _||_}
+use mathlib.Core.Bool.{Bool, true, false, not, _&&_}
 use Prim.Native.Nat.{ℕ, _-_, _*_, _/_, _≤_}
 use native.Mathlib.Omega.{arith}
-use lib.Dec.{eqb, ltb}
+use lib.Dec.{ltb}
 use borrow.Author.Tests.{eqb-true, ltb-false, not-true, not-false}
 use Rattle.base.proofs.All.{and-left, and-right, or-left, or-right}
 use Rattle.answers.specs.declared.Answer.{Answer}
@@ -14,7 +14,7 @@ use Rattle.answers.specs.Checks.{Check, firstOf, noneHolds}
 use Rattle.answers.proofs.EndLaws.{none-of-zero, refused-earlier, left-to-later}
 use Rattle.answers.specs.Limits.{entriesOutOfRange}
 use Rattle.patterns.specs.Checks.{tooLarge}
-use Rattle.patterns.proofs.SizeLaws.{rows-most, rows-least, columns-most}
+use Rattle.patterns.proofs.SizeLaws.{rows-most, columns-most}
 use Rattle.wire.specs.Words.{indexesIn}
 use Rattle.wire.specs.Bytes.{wordsIn, wordsTo}
 use Rattle.pattern_bytes.specs.Checks.{broken, byteChecks, brokenPattern, brokenFactor, rowChecks, Held}

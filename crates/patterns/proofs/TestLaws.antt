@@ -6,7 +6,6 @@ use Prim.Native.Nat.{ℕ, zero, suc, _+_, _-_, _≤_}
 use native.Mathlib.Numerals.{add-one}
 use native.Mathlib.Omega.{arith}
 use Rattle.base.specs.All.{allTo}
-use Rattle.base.proofs.All.{false-right}
 
 pub and-true : (b : Bool) → (b && true) ≡ b
 and-true true = refl

@@ -1,14 +1,13 @@
 -- What a caller has of a valid pattern: each row's ends, and columns that are rows.
 -- Assumes nothing.
-use mathlib.Core.Path.{_≡_, refl, sym, ap, _∙_}
+use mathlib.Core.Path.{_≡_}
 use mathlib.Core.List.{List}
-use mathlib.Core.Bool.{Bool, true, _&&_}
+use mathlib.Core.Bool.{true, _&&_}
 use Prim.Native.Nat.{ℕ, zero, suc, _+_, _-_, _≤_, _<_}
 use native.Mathlib.Omega.{arith}
-use lib.ListN.{length, getD, take, drop, length-take, length-drop}
+use lib.ListN.{length, getD, drop, length-take, length-drop}
 use lib.Seq.{getD-take, getD-drop}
 use borrow.Author.Tests.{leb-true, eqb-true, ltb-true}
-use Rattle.base.specs.All.{allTo}
 use Rattle.base.proofs.All.{all-at, and-left, and-right}
 use Rattle.patterns.specs.Pattern.{rowsOf, rowOf, firstIsZero, neverFall, lastIsCount, allBelow, allOnce, ownAbsent, allOwnAbsent, validOffsets, validEntries, validPattern}
 

@@ -4,7 +4,7 @@ ghost use mathlib.Core.Path.{_≡_};
 ghost use Prim.Native.Nat.{_+_, _*_, _≤_};
 ghost use lib.ListN.{length};
 ghost use lib.Ieee.{binary64};
-ghost use Rattle.vectors.specs.Vectors.{zeroed, copied, addScaled, scaleAdd, scaledBy, keptBy, fixed, rowDot, dotTo};
+ghost use Rattle.vectors.specs.Vectors.{zeroed, copied, addScaled, scaleAdd, keptBy, fixed, rowDot, dotTo};
 
 // Each value becomes +0.
 pub fn set_zero(p: &mut [f64])
@@ -49,17 +49,6 @@ pub fn scale_and_add_vec(p: &mut [f64], beta: f64, r: &[f64])
     let mut k = 0;
     while k < p.len() {
         p[k] = r[k] + p[k] * beta;
-        k += 1;
-    }
-}
-
-// y = y * beta
-pub fn scale(y: &mut [f64], beta: f64)
-    ensures { λ _. ⌜ now (y .exit) ≡ scaledBy binary64 beta (now (y .entry)) ⌝ }
-{
-    let mut k = 0;
-    while k < y.len() {
-        y[k] = y[k] * beta;
         k += 1;
     }
 }

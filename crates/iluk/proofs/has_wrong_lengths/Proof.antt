@@ -1,7 +1,6 @@
 -- `has_wrong_lengths` meets its promise: each length in turn.
 -- Assumes nothing.
 use mathlib.Core.Path.{sym, _∙_}
-use lib.ListN.{length}
 use borrow.Author.Tests.{eq-eqb, ne-eqb}
 use borrow.Author.Needs.{needs}
 use Rattle.iluk.proofs.has_wrong_lengths.Statement.{statement}

@@ -1,7 +1,6 @@
 -- `blkcsr_in` meets its promise: refused with every byte as it was, or done and written.
 -- Assumes nothing.
 use mathlib.Core.Path.{refl}
-use native.Mathlib.Omega.{arith}
 use lib.Ieee.{binary64}
 use Rattle.wire.specs.Bytes.{bytesOf}
 use Rattle.entry_bytes.proofs.WayLaws.{by-blkcsr, entries-read, written, unwritten}

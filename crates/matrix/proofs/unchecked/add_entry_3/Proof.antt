@@ -1,6 +1,6 @@
 -- `unchecked::add_entry_3` meets its promise: the entry's block is in the values, and its column's row in x.
 -- Assumes nothing.
-use Prim.Native.Nat.{_+_, _-_, _≤_}
+use Prim.Native.Nat.{_+_, _-_}
 use native.Mathlib.Omega.{arith}
 use lib.ListN.{length}
 use borrow.Author.Needs.{needs}

@@ -1,8 +1,6 @@
 -- `unchecked::add_four_3` meets its promise: the four entries are added one after the other.
 -- Assumes nothing.
-use mathlib.Core.List.{List}
-use Prim.Native.Nat.{ℕ}
-use lib.Ieee.{Float, binary64}
+use lib.Ieee.{binary64}
 use borrow.Author.Needs.{needs}
 use Rattle.matrix.specs.Product.{addEntry}
 use Rattle.matrix.proofs.ProductLaws.{four-more}

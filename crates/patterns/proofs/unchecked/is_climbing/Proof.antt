@@ -1,7 +1,6 @@
 -- `unchecked::is_climbing` meets its promise: the eight columns are all of the row.
 -- Assumes nothing.
-use mathlib.Core.Path.{_≡_, _∙_}
-use native.Mathlib.Omega.{arith}
+use mathlib.Core.Path.{_∙_}
 use Rattle.patterns.proofs.ClimbLaws.{eight-all}
 use borrow.Author.Needs.{needs}
 use Rattle.patterns.proofs.unchecked.is_climbing.Statement.{statement}

@@ -1,6 +1,6 @@
 -- `unchecked::is_next_fresh` meets its promise: the column is below the number of marks, and its mark is looked at before it is written.
 -- Assumes nothing.
-use mathlib.Core.Path.{_≡_, ap}
+use mathlib.Core.Path.{ap}
 use mathlib.Core.Bool.{not}
 use Prim.Native.Nat.{_-_, _<_}
 use native.Mathlib.Omega.{arith}

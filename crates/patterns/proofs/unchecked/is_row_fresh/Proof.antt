@@ -1,6 +1,6 @@
 -- `unchecked::is_row_fresh` meets its promise: two markings of four columns are that of a row of eight.
 -- Assumes nothing.
-use mathlib.Core.Path.{_≡_, refl, sym}
+use mathlib.Core.Path.{refl}
 use native.Mathlib.Omega.{arith}
 use borrow.Author.Tests.{not-true, not-false}
 use Rattle.patterns.proofs.MarkLaws.{marked-stops, marked-on, marked-to}

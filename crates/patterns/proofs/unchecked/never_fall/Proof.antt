@@ -5,7 +5,6 @@ use Prim.Native.Nat.{_+_, _-_, _≤_}
 use native.Mathlib.Omega.{arith}
 use lib.ListN.{getD}
 use lib.Dec.{leb}
-use borrow.Author.Tests.{le-leb, lt-leb}
 use Rattle.base.specs.All.{allTo}
 use Rattle.patterns.specs.Pattern.{rowsOf, neverFall}
 use Rattle.patterns.proofs.TestLaws.{flag-on}
