@@ -1,8 +1,7 @@
 -- The loop over the rows.
 -- Assumes nothing.
 use mathlib.Core.Path.{_≡_, refl, sym, ap, _∙_}
-use mathlib.Core.Logic.{_⊎_, inl, inr}
-use mathlib.Core.List.{List, [], _∷_, _++_, append-assoc, append-nil}
+use mathlib.Core.List.{List, [], _∷_, _++_, append-assoc}
 use mathlib.Core.Bool.{true, false}
 use mathlib.Core.Option.{none}
 use Prim.Native.Nat.{ℕ, zero, suc, _+_, _-_, _≤_, _<_}
@@ -15,11 +14,11 @@ use borrow.Author.Tests.{eq-eqb, le-leb, lt-leb}
 use Rattle.base.specs.Each.{each, eachTo}
 use Rattle.base.proofs.Each.{each-none, each-more, each-all, length-eachTo, cons-same}
 use Rattle.walks.specs.Levels.{Pattern, levelOf}
-use Rattle.walks.proofs.Highest.{le-or-lt}
 use Rattle.patterns.specs.Pattern.{rowsOf, validPattern}
 use Rattle.fill.specs.Fill.{stored, columnsFrom, levelsFrom, fillColumns, fillLevels, startOf, splitAt, listed}
 use Rattle.fill.specs.Steps.{levelsIn, Levelled, over, put, Upper, Written, Worked, RowReady, PutFits, Going, Filled}
 use Rattle.fill.proofs.Lists.{columns-add, levels-add, columns-same, levels-same, same-count, over-none, length-over, over-add}
+use Rattle.fill.proofs.JoinedLaws.{joined-behind, fillRow, fill-joined, levels-joined}
 use Rattle.fill.proofs.SpanLaws.{columns-after}
 use Rattle.fill.proofs.RowLaws.{row-level, row-small}
 
@@ -30,7 +29,7 @@ getD-done f (suc m) [] i d h b = absurd (not-suc-le-zero b)
 getD-done f (suc m) (x ∷ l) zero d h b = refl
 getD-done f (suc m) (x ∷ l) (suc i) d h b = getD-done (λ k. f (suc k)) m l i d (le-of-suc-le-suc h) (le-of-suc-le-suc b)
 
-listed-same : (f g : ℕ → ℕ) (c e d : ℕ) → ((i : ℕ) → f (c + i) ≡ g (e + i)) → listed f c d ≡ listed g e d
+pub listed-same : (f g : ℕ → ℕ) (c e d : ℕ) → ((i : ℕ) → f (c + i) ≡ g (e + i)) → listed f c d ≡ listed g e d
 unfolding listed
 listed-same f g c e zero h = refl
 listed-same f g c e (suc d) h =
@@ -41,7 +40,7 @@ listed-same f g c e (suc d) h =
     let y′ : suc e + i ≡ e + suc i = omega arith in
     rw (y, y′) (h (suc i))))
 
-each-listed : (f : ℕ → ℕ) (l : List ℕ) → each (λ i _. f i) l ≡ listed f 0 (length l)
+pub each-listed : (f : ℕ → ℕ) (l : List ℕ) → each (λ i _. f i) l ≡ listed f 0 (length l)
 unfolding each listed
 each-listed f [] = refl
 each-listed f (x ∷ l) = cons-same refl (each-listed (λ i. f (suc i)) l ∙ listed-same (λ i. f (suc i)) f 0 1 (length l) (λ i.
@@ -59,7 +58,8 @@ part-of F L U R D S s e q es ee =
     )
 
 module _ (A : Pattern) (k n : ℕ) where
-  own-none : (p : ℕ) → levelOf A k p p ≡ none
+  -- a row has no level at its own column
+  pub own-none : (p : ℕ) → levelOf A k p p ≡ none
   unfolding levelOf
   own-none p = rw (eq-eqb p p refl)
 
@@ -80,24 +80,10 @@ module _ (A : Pattern) (k n : ℕ) where
 
   -- the columns of row p stand behind those of the rows before it
   pub behind : (p i : ℕ) → p < i → (R : List ℕ) × (fillColumns A k n i ≡ fillColumns A k n p ++ (columnsFrom (levelOf A k p) 0 n ++ R))
-  unfolding fillColumns
-  behind p zero h = absurd (not-suc-le-zero h)
-  behind p (suc i) h = go (le-or-lt i p) (λ q. behind p i q)
-    where
-      go : (i ≤ p) ⊎ (p < i) → (p < i → (R : List ℕ) × (fillColumns A k n i ≡ fillColumns A k n p ++ (columnsFrom (levelOf A k p) 0 n ++ R)))
-          → (R : List ℕ) × (fillColumns A k n i ++ columnsFrom (levelOf A k i) 0 n ≡ fillColumns A k n p ++ (columnsFrom (levelOf A k p) 0 n ++ R))
-      go (inl q) r = let e : p ≡ i = omega arith in ([], rw (e, append-nil))
-      go (inr q) r = (r q .0 ++ columnsFrom (levelOf A k i) 0 n, rw (r q .1) (simp append-assoc))
+  behind p i h = rw (fill-joined A k n i, fill-joined A k n p) (joined-behind (fillRow A k n) p i h)
 
   behind-levels : (p i : ℕ) → p < i → (R : List ℕ) × (fillLevels A k n i ≡ fillLevels A k n p ++ (levelsFrom (levelOf A k p) 0 n ++ R))
-  unfolding fillLevels
-  behind-levels p zero h = absurd (not-suc-le-zero h)
-  behind-levels p (suc i) h = go (le-or-lt i p) (λ q. behind-levels p i q)
-    where
-      go : (i ≤ p) ⊎ (p < i) → (p < i → (R : List ℕ) × (fillLevels A k n i ≡ fillLevels A k n p ++ (levelsFrom (levelOf A k p) 0 n ++ R)))
-          → (R : List ℕ) × (fillLevels A k n i ++ levelsFrom (levelOf A k i) 0 n ≡ fillLevels A k n p ++ (levelsFrom (levelOf A k p) 0 n ++ R))
-      go (inl q) r = let e : p ≡ i = omega arith in ([], rw (e, append-nil))
-      go (inr q) r = (r q .0 ++ levelsFrom (levelOf A k i) 0 n, rw (r q .1) (simp append-assoc))
+  behind-levels p i h = rw (levels-joined A k n i, levels-joined A k n p) (joined-behind (λ r. levelsFrom (levelOf A k r) 0 n) p i h)
 
   -- as many levels as columns
   levels-count : (i : ℕ) → length (fillLevels A k n i) ≡ startOf A k n i

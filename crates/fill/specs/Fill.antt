@@ -33,6 +33,11 @@ unfoldable pub levelsFrom : (ℕ → Option ℕ) → ℕ → ℕ → List ℕ
 levelsFrom f c zero = []
 levelsFrom f c (suc d) = levelAt (f c) ++ levelsFrom f (suc c) d
 
+-- the rows before i, one after the other
+unfoldable pub joined : (ℕ → List ℕ) → ℕ → List ℕ
+joined row zero = []
+joined row (suc i) = joined row i ++ row i
+
 -- the columns of the rows before i, in order
 unfoldable pub fillColumns : Pattern → ℕ → ℕ → ℕ → List ℕ
 unfolding columnsFrom

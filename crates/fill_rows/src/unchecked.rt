@@ -1,5 +1,6 @@
 // The words of a row: 0 is no level, and l + 1 is the level l. Marks are the words that are not 0, and lie within a span of columns.
 // These functions ask of their callers what the steps before have done, so that no user calls them.
+use fill::clear;
 ghost use mathlib.Core.Path.{_≡_};
 ghost use Prim.Native.Nat.{ℕ, _+_, _-_, _<_, _≤_, min, max};
 ghost use lib.ListN.{length, getD, set, replicate};
@@ -151,26 +152,6 @@ fn load_row(row: &mut [u32], columns: &[u32])
         let column = wide(columns[e]);
         row[column] = 1;
         e += 1;
-    }
-}
-
-pub fn clear(s: &mut [u32])
-    ensures { λ _. ⌜ now (s .exit) ≡ replicate (length (now (s .entry))) 0 ⌝ }
-{
-    let mut i = 0;
-    while i < s.len() {
-        s[i] = 0;
-        i += 1;
-    }
-}
-
-pub fn clear_levels(s: &mut [u16])
-    ensures { λ _. ⌜ now (s .exit) ≡ replicate (length (now (s .entry))) 0 ⌝ }
-{
-    let mut i = 0;
-    while i < s.len() {
-        s[i] = 0;
-        i += 1;
     }
 }
 

@@ -4,54 +4,44 @@ use mathlib.Core.Path.{_≡_, refl, sym, _∙_}
 use mathlib.Core.List.{List}
 use mathlib.Core.Bool.{Bool, true, false, not, _||_}
 use mathlib.Core.Option.{Option, none, some}
-use Prim.Native.Nat.{ℕ, _+_, _-_, _≤_, _<_}
+use Prim.Native.Nat.{ℕ, _≤_, _<_}
 use native.Mathlib.Omega.{arith}
-use lib.Dec.{ltb, eqb}
+use lib.Dec.{eqb}
 use lib.ListN.{length}
-use borrow.Author.Tests.{ltb-false, le-leb, lt-ltb, le-ltb, leb-true, leb-false, eqb-true, not-false}
+use borrow.Author.Tests.{le-leb, lt-ltb, le-ltb, leb-true, leb-false, eqb-true, not-false}
 use Rattle.base.specs.All.{allTo}
 use Rattle.base.proofs.All.{all-of, or-left, or-right}
 use Rattle.answers.specs.declared.Refusal.the-variants.{Size, Shape, Pattern, Room}
 use Rattle.answers.specs.declared.Answer.the-variants.{Done, Refused}
-use Rattle.answers.specs.Limits.{rowsOutOfRange, entriesOutOfRange}
 use Rattle.patterns.specs.Pattern.{rowsOf, validPattern}
 use Rattle.patterns.specs.Checks.{tooLarge}
+use Rattle.patterns.proofs.SizeLaws.{rows-most}
 use Rattle.walks.specs.Levels.{levelOf}
 use Rattle.walks.proofs.LevelLaws.{level-low}
 use Rattle.fill.specs.Fill.{stored, fillOffsets, fillSplits, startOf}
+use Rattle.fill.specs.Promise.{wrongOutputs}
 use Rattle.fill.specs.Steps.{Shaped, Whole}
+use Rattle.fill.proofs.OutputLaws.{Outputs, outputs-are}
 use Rattle.iluk.specs.Checks.{wrongLengths, levelFits, levelPasses}
 use Rattle.iluk.specs.Iluk.{Initialized}
 
--- what check 1 has shown
-pub few-rows : (o e : ℕ) → tooLarge o e ≡ false → (1 ≤ o - 1) × (o - 1 ≤ 4096)
-few-rows o e h =
-    let r : rowsOutOfRange (o - 1) ≡ false = or-left (rowsOutOfRange (o - 1)) (entriesOutOfRange e) h in
-    (ltb-false _ _ (or-left (ltb (o - 1) 1) (ltb 4096 (o - 1)) r), ltb-false _ _ (or-right (ltb (o - 1) 1) (ltb 4096 (o - 1)) r))
-
--- and check 2
+-- what check 2 has shown
 pub record Lengths (n o cs ss ls row : ℕ) : Type 0 where
-  pub offsets : o ≡ n + 1
-  pub room : cs ≤ 65535
-  pub splits : ss ≡ n
+  pub outputs : Outputs n o cs ss
   pub levels : ls ≡ cs
   pub rows : row ≡ n
 
 pub lengths-are : (n o cs ss ls row : ℕ) → wrongLengths n o cs ss ls row ≡ false → Lengths n o cs ss ls row
 lengths-are n o cs ss ls row h =
-    let h₁ = or-right (not (eqb o (n + 1))) (entriesOutOfRange cs || (not (eqb ss n) || (not (eqb ls cs) || not (eqb row n)))) h in
-    let h₂ = or-right (entriesOutOfRange cs) (not (eqb ss n) || (not (eqb ls cs) || not (eqb row n))) h₁ in
-    let h₃ = or-right (not (eqb ss n)) (not (eqb ls cs) || not (eqb row n)) h₂ in
+    let rest = or-right (wrongOutputs n o cs ss) (not (eqb ls cs) || not (eqb row n)) h in
     record {
-      offsets = eqb-true _ _ (not-false _ (or-left (not (eqb o (n + 1))) (entriesOutOfRange cs || (not (eqb ss n) || (not (eqb ls cs) || not (eqb row n)))) h));
-      room = ltb-false _ _ (or-right (ltb cs 0) (ltb 65535 cs) (or-left (entriesOutOfRange cs) (not (eqb ss n) || (not (eqb ls cs) || not (eqb row n))) h₁));
-      splits = eqb-true _ _ (not-false _ (or-left (not (eqb ss n)) (not (eqb ls cs) || not (eqb row n)) h₂));
-      levels = eqb-true _ _ (not-false _ (or-left (not (eqb ls cs)) (not (eqb row n)) h₃));
-      rows = eqb-true _ _ (not-false _ (or-right (not (eqb ls cs)) (not (eqb row n)) h₃));
+      outputs = outputs-are n o cs ss (or-left (wrongOutputs n o cs ss) (not (eqb ls cs) || not (eqb row n)) h);
+      levels = eqb-true _ _ (not-false _ (or-left (not (eqb ls cs)) (not (eqb row n)) rest));
+      rows = eqb-true _ _ (not-false _ (or-right (not (eqb ls cs)) (not (eqb row n)) rest));
     }
 
 -- no level passes 65,535: it is at most its row
-no-level-passes : (A : ℕ → ℕ → Bool) (k n : ℕ) → n ≤ 4096 → levelPasses A k n ≡ false
+pub no-level-passes : (A : ℕ → ℕ → Bool) (k n : ℕ) → n ≤ 4096 → levelPasses A k n ≡ false
 unfolding levelPasses
 no-level-passes A k n few =
     let all = all-of (λ i. allTo (λ j. levelFits (levelOf A k i j)) n) n (λ i hi. all-of (λ j. levelFits (levelOf A k i j)) n (λ j hj. fits i j hi (levelOf A k i j) refl)) in
@@ -85,15 +75,15 @@ module _ (k : ℕ) (ao ac o cs ss ls row : List ℕ) where
         shaped-of = record {
           rows = sym rows-long;
           valid = d;
-          few = omega (arith, rows-long, few-rows (length ao) (length ac) a .1);
-          room = says .room;
-          offsets-long = omega (arith, says .offsets, rows-long);
-          splits-long = omega (arith, says .splits, rows-long);
+          few = omega (arith, rows-long, rows-most (length ao) (length ac) a);
+          room = says .outputs .room;
+          offsets-long = omega (arith, says .outputs .offsets-long, rows-long);
+          splits-long = omega (arith, says .outputs .splits-long, rows-long);
           levels-long = says .levels;
         }
 
         low : levelPasses (stored ao ac) k (rowsOf ao) ≡ false
-        low = no-level-passes (stored ao ac) k (rowsOf ao) (few-rows (length ao) (length ac) a .1)
+        low = no-level-passes (stored ao ac) k (rowsOf ao) (rows-most (length ao) (length ac) a)
 
         module _ (r : Bool) (o′ cs′ ss′ ls′ row′ : List ℕ) (w : Whole (stored ao ac) k (rowsOf ao) (length cs) r o′ cs′ ss′ ls′ row′) where
           pub all-done : r ≡ true → Initialized k ao ac o cs ss ls row Done o′ cs′ ss′ ls′ row′
@@ -114,9 +104,9 @@ module _ (k : ℕ) (ao ac o cs ss ls row : List ℕ) where
               let full = lt-ltb _ _ (leb-false (startOf (stored ao ac) k (rowsOf ao) (rowsOf ao)) (length cs) (sym (w .answer) ∙ t)) in
               record {
                 number = rw (a, b, d, low, full);
-                offsets-are = w .offsets ∙ rw (t, says .offsets);
+                offsets-are = w .offsets ∙ rw (t, says .outputs .offsets-long);
                 columns-are = w .columns ∙ rw t;
-                splits-are = w .splits ∙ rw (t, says .splits);
+                splits-are = w .splits ∙ rw (t, says .outputs .splits-long);
                 levels-are = w .levels ∙ rw (says .levels);
                 row-is = w .row-clear ∙ rw rows-long;
               }

@@ -4,3 +4,4 @@ pub mod AnswerLaws
 pub mod CheckOrder
 pub mod Demand
 pub mod Agreement
+pub mod Passes

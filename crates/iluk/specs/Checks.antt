@@ -3,21 +3,21 @@
 use mathlib.Core.List.{List, [], _∷_}
 use mathlib.Core.Bool.{Bool, true, not, _||_}
 use mathlib.Core.Option.{Option, none, some}
-use Prim.Native.Nat.{ℕ, _+_}
+use Prim.Native.Nat.{ℕ}
 use lib.Dec.{ltb, leb, eqb}
 use lib.ListN.{length}
 use Rattle.base.specs.All.{allTo}
 use Rattle.answers.specs.Checks.{Check, _when_}
-use Rattle.answers.specs.Limits.{entriesOutOfRange}
 use Rattle.patterns.specs.Pattern.{rowsOf, validPattern}
 use Rattle.patterns.specs.Checks.{tooLarge}
 use Rattle.walks.specs.Levels.{Pattern, levelOf}
 use Rattle.fill.specs.Fill.{stored, startOf}
+use Rattle.fill.specs.Promise.{wrongOutputs}
 
--- 2: offsets n+1, splits n; room is at most 65,535; of the work slices, levels are as long as the room and the row has n words
+-- 2: of what is written; and of the work slices, levels are as long as the room and the row has n words
 abbrev pub wrongLengths : ℕ → ℕ → ℕ → ℕ → ℕ → ℕ → Bool
 wrongLengths n offsets columns splits levels row =
-    not (eqb offsets (n + 1)) || (entriesOutOfRange columns || (not (eqb splits n) || (not (eqb levels columns) || not (eqb row n))))
+    wrongOutputs n offsets columns splits || (not (eqb levels columns) || not (eqb row n))
 
 -- a level that a word of 16 bits holds
 abbrev pub levelFits : Option ℕ → Bool

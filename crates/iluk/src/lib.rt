@@ -3,18 +3,17 @@
 pub mod unchecked;
 
 use answers::Answer;
-use answers::Entries;
 use answers::Refusal;
+use fill::is_wrong_output;
 use patterns::is_too_large;
 use patterns::unchecked::is_valid_pattern;
 use unchecked::write_fill;
 ghost use mathlib.Core.Path.{_≡_};
-ghost use Prim.Native.Nat.{_≤_};
 ghost use Rattle.iluk.specs.Checks.{wrongLengths};
 ghost use Rattle.iluk.specs.Iluk.{Initialized};
 
-// Check 2, of the lengths of what is written.
-fn has_wrong_lengths(
+// Check 2, of the lengths of what is written and of the work.
+pub fn has_wrong_lengths(
     n: usize,
     offsets: usize,
     columns: usize,
@@ -22,16 +21,9 @@ fn has_wrong_lengths(
     levels: usize,
     row: usize,
 ) -> bool
-    requires { ⌜ n ≤ 4096 ⌝ }
     ensures { λ r. ⌜ r ≡ wrongLengths n offsets columns splits levels row ⌝ }
 {
-    if offsets != n + 1 {
-        return true;
-    }
-    if Entries(columns).out_of_range() {
-        return true;
-    }
-    if splits != n {
+    if is_wrong_output(n, offsets, columns, splits) {
         return true;
     }
     if levels != columns {

@@ -1,7 +1,7 @@
 // The rows of the fill one after the other, for a pattern and lengths that were checked.
 // These functions ask that of their callers, so that no user calls them.
-use fill_rows::unchecked::clear;
-use fill_rows::unchecked::clear_levels;
+use fill::clear;
+use fill::clear_levels;
 use fill_rows::unchecked::count_marks;
 use fill_rows::unchecked::put_row;
 use fill_rows::unchecked::row_levels;

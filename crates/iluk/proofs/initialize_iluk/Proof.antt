@@ -8,8 +8,9 @@ use lib.ListN.{length}
 use borrow.Author.Tests.{not-true, not-false}
 use Rattle.patterns.specs.Pattern.{rowsOf, validPattern}
 use Rattle.patterns.specs.Checks.{tooLarge}
+use Rattle.patterns.proofs.SizeLaws.{rows-least, rows-most}
 use Rattle.iluk.specs.Checks.{wrongLengths}
-use Rattle.iluk.proofs.AnswerLaws.{few-rows, wrong-size, wrong-shape, wrong-pattern, rows-long, shaped-of, all-done, no-room}
+use Rattle.iluk.proofs.AnswerLaws.{wrong-size, wrong-shape, wrong-pattern, rows-long, shaped-of, all-done, no-room}
 use borrow.Author.Needs.{needs}
 use Rattle.iluk.proofs.initialize_iluk.Statement.{statement}
 use Rattle.iluk.proofs.initialize_iluk.Tie as tie
@@ -22,7 +23,10 @@ sized : (c : tie.Else1) → tooLarge (length (start c .args .starts .now)) (leng
 sized c = sym (c .before .is-too-large .ensures) ∙ c .if1 .left
 
 few : (c : tie.Else1) → (1 ≤ length (start c .args .starts .now) - 1) × (length (start c .args .starts .now) - 1 ≤ 4096)
-few c = few-rows (length (start c .args .starts .now)) (length (start c .args .entries .now)) (sized c)
+few c =
+    let o = length (start c .args .starts .now) in
+    let e = length (start c .args .entries .now) in
+    (rows-least o e (sized c), rows-most o e (sized c))
 
 formed : (c : tie.Else2) → let a = start (c .before .before) .args in
     wrongLengths (rowsOf (a .starts .now)) (length (a .offsets .now)) (length (a .columns .now)) (length (a .splits .now)) (length (a .levels .now)) (length (a .row .now)) ≡ false
@@ -36,9 +40,6 @@ returns c = wrong-size _ _ _ _ _ _ _ _ (sym (c .before .is-too-large .ensures) �
 
 sub-n : tie.Need-sub-n
 sub-n c = omega (arith, few c)
-
-has-wrong-lengths-requires : tie.Need-has-wrong-lengths-requires
-has-wrong-lengths-requires c κs = omega (arith, few c)
 
 returns-2 : tie.Need-returns-2
 returns-2 c = wrong-shape _ _ _ _ _ _ _ _ (sized (c .before .before)) (sym (c .before .has-wrong-lengths .ensures) ∙ c .if2 .taken)
@@ -65,6 +66,6 @@ returns-5 c = all-done _ _ _ _ _ _ _ _ (sized (c .before .before .before .before
 
 pub initialize-iluk-spec : {M : Type 1} → statement M
 initialize-iluk-spec =
-    tie.close (tie.spec (λ c κs. search needs) returns sub-n has-wrong-lengths-requires returns-2 is-valid-pattern-requires returns-3 cast-write-fill
+    tie.close (tie.spec (λ c κs. search needs) returns sub-n (λ c κs. search needs) returns-2 is-valid-pattern-requires returns-3 cast-write-fill
     write-fill-requires (λ c. search needs) (λ c. search needs) (λ c. search needs) (λ c. search needs) (λ c. search needs) returns-4
     (λ c. search needs) (λ c. search needs) (λ c. search needs) (λ c. search needs) (λ c. search needs) returns-5)

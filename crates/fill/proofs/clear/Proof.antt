@@ -1,14 +1,14 @@
--- `unchecked::clear` meets its promise: after i turns the first i words are 0.
+-- `clear` meets its promise: after i turns the first i words are 0.
 -- Assumes nothing.
 use mathlib.Core.Path.{_≡_, refl, _∙_}
 use mathlib.Core.List.{_++_}
 use Prim.Native.Nat.{_-_, _≤_, _<_}
 use native.Mathlib.Omega.{arith}
 use lib.ListN.{length, drop, replicate}
 use Rattle.fill.proofs.Lists.{zeros-more, zeros-end}
 use borrow.Author.Needs.{needs}
-use Rattle.fill_rows.proofs.unchecked.clear.Statement.{statement}
-use Rattle.fill_rows.proofs.unchecked.clear.Tie as tie
+use Rattle.fill.proofs.clear.Statement.{statement}
+use Rattle.fill.proofs.clear.Tie as tie
 
 abbrev Inv-loop : tie.InvT-loop
 Inv-loop s₀ i₀ s i = (length s ≡ length s₀) × (i ≤ length s₀) × (s ≡ replicate i 0 ++ drop i s₀)
