@@ -7,6 +7,9 @@ pub const ORDER: [u32; 11] = [1, 10, 2, 3, 11, 6, 7, 8, 5, 4, 9];
 /// "After 1, 10, 2, 3, 11, 6, 7 and 8 no lent word has changed."
 pub const UNCHANGED: [u32; 8] = [1, 10, 2, 3, 11, 6, 7, 8];
 
+/// "After 4 and 5 all output and work words are 0."
+pub const CLEARED: [u32; 2] = [4, 5];
+
 pub const DONE: u32 = 0;
 pub const SIZE: u32 = 1;
 pub const SHAPE: u32 = 2;
@@ -14,6 +17,7 @@ pub const PATTERN: u32 = 3;
 pub const SPLIT: u32 = 11;
 pub const NODE: u32 = 6;
 pub const NO_ENTRY: u32 = 7;
+pub const ROOM: u32 = 4;
 pub const SINGULAR: u32 = 9;
 
 /// The first number, in the table's order, of those whose condition holds; 0 if none does.
@@ -86,6 +90,7 @@ pub fn vector_refusal(n: u32, dim: u32, length: usize) -> u32 {
 pub struct Counts {
     pub dim: u32,
     pub rows: usize,
+    /// The entries of a pattern that is read, or the room for those of one that is written.
     pub entries: usize,
     pub nodes: usize,
 }
@@ -95,8 +100,16 @@ pub struct Counts {
 pub enum Length {
     /// Offsets and columns: however many there are, they say what n and the entries are.
     Any,
+    /// "Offsets n+1", of a pattern that is written.
+    Offsets,
+    /// "Room is the length of the lent output columns, at most 65,535; longer is 2."
+    Room,
     /// "Splits n."
     Splits,
+    /// "Lengths of work slices are fixed in docs/": a level for each entry that there is room for.
+    Levels,
+    /// Likewise: a mark for each column of a row.
+    Marks,
     /// "Vectors and flags N*n."
     Rows,
     /// "Flags may be longer than the vector."
@@ -120,7 +133,9 @@ impl Length {
         let block = dim * dim;
         match self {
             Length::Any => None,
-            Length::Splits => Some(rows),
+            Length::Offsets => Some(rows + 1),
+            Length::Room | Length::Levels => Some(entries),
+            Length::Splits | Length::Marks => Some(rows),
             Length::Rows | Length::RowsOrMore => Some(dim * rows),
             Length::Diagonal => Some(block * rows),
             Length::Entries => Some(block * entries),
@@ -135,6 +150,7 @@ impl Length {
         };
         match self {
             Length::RowsOrMore => words >= right,
+            Length::Room => words == right && entries_in_range(words as usize),
             Length::Nodes => words == right && nodes_in_range(words),
             _ => words == right,
         }
@@ -261,6 +277,16 @@ pub fn is_wrongly_split(pattern: &Pattern, splits: &[u32]) -> bool {
     !rows_rise(pattern) || !splits_are_right(pattern, splits)
 }
 
+/// "The pattern to be written has more entries than room."
+pub fn lacks_room(entries: u128, room: usize) -> bool {
+    entries > room as u128
+}
+
+/// `initialize_full`: "all other columns", in each of n rows.
+pub fn entries_of_full(n: u32) -> u128 {
+    u128::from(n) * u128::from(n).saturating_sub(1)
+}
+
 /// "An element names a row or column at or above n."
 pub fn names_a_node_beyond_n(pattern: &Pattern, nodes: &[u32]) -> bool {
     nodes.iter().any(|&node| node as usize >= pattern.rows())
@@ -347,6 +373,22 @@ mod tests {
         assert!(is_valid_with_own_columns(&pattern(&[0, 0, 1], &[1])));
         assert!(!rows_rise(&pattern(&[0, 2, 2, 2], &[2, 1])));
         assert!(is_too_large(&pattern(&[0], &[])) && !is_too_large(&pattern(&[0, 0], &[])));
+    }
+
+    #[test]
+    fn room() {
+        assert!(lacks_room(14, 13) && !lacks_room(14, 14));
+        assert_eq!(
+            [0, 1, 256, 257].map(entries_of_full),
+            [0, 0, 65_280, 65_792]
+        );
+        let counts = |entries| Counts {
+            dim: 1,
+            entries,
+            ..Counts::default()
+        };
+        assert!(Length::Room.allows(65_535, &counts(65_535)));
+        assert!(!Length::Room.allows(65_536, &counts(65_536)));
     }
 
     #[test]

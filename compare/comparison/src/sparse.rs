@@ -128,6 +128,20 @@ pub fn every_pattern(n: usize) -> Vec<Sparse> {
     patterns.iter().map(|rows| Sparse::of_rows(rows)).collect()
 }
 
+/// Every valid pattern of n rows that are sorted.
+pub fn every_sorted_pattern(n: usize) -> Vec<Sparse> {
+    let places = n * n.saturating_sub(1);
+    let pattern = |set: usize| {
+        let mut rest = set;
+        where_stands(n, |i, j| {
+            let stands = i != j && rest & 1 == 1;
+            rest >>= usize::from(i != j);
+            stands
+        })
+    };
+    (0..1 << places).map(pattern).collect()
+}
+
 /// The entries (i, j) for which `stands` holds, in sorted rows.
 pub fn where_stands(n: usize, mut stands: impl FnMut(usize, usize) -> bool) -> Sparse {
     let rows: Vec<Vec<u32>> = (0..n)
@@ -156,6 +170,86 @@ pub fn chain(n: usize) -> Sparse {
 
 pub fn dense(n: usize) -> Sparse {
     where_stands(n, |i, j| i != j)
+}
+
+/// Each row with all that are at most so far away.
+pub fn band(n: usize, half: usize) -> Sparse {
+    let rows: Vec<Vec<u32>> = (0..n)
+        .map(|i| {
+            let near = i.saturating_sub(half)..(i + half + 1).min(n);
+            near.filter(|&j| j != i).map(|j| j as u32).collect()
+        })
+        .collect();
+    Sparse::of_rows(&rows)
+}
+
+/// One dense row and its column.
+pub fn arrow(n: usize, full: usize) -> Sparse {
+    where_stands(n, |i, j| i != j && (i == full || j == full))
+}
+
+/// These entries of n rows, if they are valid ones, in sorted rows.
+fn of_pairs(n: usize, pairs: &[(usize, usize)]) -> Sparse {
+    where_stands(n, |i, j| i != j && pairs.contains(&(i, j)))
+}
+
+/// The steps of a walk, one way or both.
+fn steps(walk: &[usize], both_ways: bool) -> Vec<(usize, usize)> {
+    let mut pairs: Vec<(usize, usize)> = walk.windows(2).map(|step| (step[0], step[1])).collect();
+    if both_ways {
+        pairs.extend(walk.windows(2).map(|step| (step[1], step[0])));
+    }
+    pairs
+}
+
+/// A walk for which a row has to come again: from the highest row down one arm to row 0, up to a row that is
+/// above both arms, back to row 0 and up the other arm. Without the turn the arms nest in each other.
+fn turning_walk(n: usize, random: &mut Random) -> Vec<usize> {
+    let mut arms = [vec![0], vec![0]];
+    for row in 1..n - 3 {
+        arms[usize::from(random.flip())].push(row);
+    }
+    let [down, up] = arms;
+    let mut walk = vec![n - 1];
+    walk.extend(down.iter().rev());
+    walk.push(n - 3);
+    walk.extend(up);
+    walk.push(n - 2);
+    walk
+}
+
+/// A sparse pattern of 5 to 14 rows in which walks are long: a walk through all rows in some order or with a
+/// turn, any walk, a tree, or about as many entries as rows; perhaps with some entries more.
+pub fn any_long(random: &mut Random) -> Sparse {
+    let n = 5 + random.below(10);
+    let mut order: Vec<usize> = (0..n).collect();
+    shuffle(&mut order, random);
+    let both_ways = random.flip();
+    let mut pairs = match random.below(6) {
+        0 | 1 => steps(&turning_walk(n, random), both_ways),
+        2 => steps(&order, both_ways),
+        3 => {
+            let walk: Vec<usize> = (0..2 * n).map(|_| random.below(n)).collect();
+            steps(&walk, both_ways)
+        }
+        4 => {
+            let grow = |at: usize| steps(&[order[at], order[random.below(at)]], true);
+            (1..n).flat_map(grow).collect()
+        }
+        _ => Vec::new(),
+    };
+    let more = if pairs.is_empty() {
+        n + random.below(n)
+    } else {
+        random.below(2) * random.below(4)
+    };
+    pairs.extend((0..more).map(|_| (random.below(n), random.below(n))));
+    let pattern = of_pairs(n, &pairs);
+    if random.flip() {
+        pattern.shuffled(random)
+    } else {
+        pattern
+    }
 }
 
 /// Each entry with a chance of `parts` in 16.
@@ -244,7 +338,7 @@ pub fn any_small(random: &mut Random) -> Sparse {
         2 => dense(n),
         3 => {
             let full = random.below(n);
-            where_stands(n, |i, j| i != j && (i == full || j == full))
+            arrow(n, full)
         }
         _ => {
             let parts = 1 + random.below(12);
@@ -364,6 +458,16 @@ mod tests {
     fn small_patterns_are_all_there() {
         let counts = [1, 2, 3].map(|n| every_pattern(n).len());
         assert_eq!(counts, [1, 4, 125]);
+        let counts = [1, 2, 3, 4].map(|n| every_sorted_pattern(n).len());
+        assert_eq!(counts, [1, 4, 64, 4096]);
+    }
+
+    #[test]
+    fn a_turning_walk_meets_row_0_twice() {
+        let walk = turning_walk(8, &mut Random::new(1));
+        assert_eq!(walk.len(), 9);
+        assert_eq!(walk.iter().filter(|&&row| row == 0).count(), 2);
+        assert!(walk.contains(&5) && walk[0] == 7 && walk[8] == 6);
     }
 
     #[test]

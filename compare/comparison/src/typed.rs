@@ -1,4 +1,4 @@
-// Slices of doubles, indexes and flags as they are lent to the timed entry points, between guard words.
+// Slices of doubles, indexes, flags and levels as they are lent to the timed entry points, between guard words.
 // After the call they become bytes again, so that they are judged as the slices of other calls are.
 
 use std::hint::black_box;
@@ -21,11 +21,17 @@ enum Words {
     Values(Vec<f64>),
     Indexes(Vec<u32>),
     Flags(Vec<i32>),
+    Levels(Vec<u16>),
 }
 
 /// What stands between the guards.
 fn inside<T>(words: &[T]) -> &[T] {
     &words[GUARD..words.len() - GUARD]
+}
+
+fn inside_mut<T>(words: &mut [T]) -> &mut [T] {
+    let end = words.len() - GUARD;
+    &mut words[GUARD..end]
 }
 
 impl Typed {
@@ -40,6 +46,7 @@ impl Typed {
             Element::Value => Words::Values(words.map(f64::from_bits).collect()),
             Element::Index => Words::Indexes(words.map(|word| word as u32).collect()),
             Element::Flag => Words::Flags(words.map(|word| word as u32 as i32).collect()),
+            Element::Level => Words::Levels(words.map(|word| word as u16).collect()),
         };
         Typed {
             name,
@@ -57,10 +64,7 @@ impl Typed {
 
     pub fn values_mut(&mut self) -> &mut [f64] {
         match &mut self.words {
-            Words::Values(values) => {
-                let end = values.len() - GUARD;
-                &mut values[GUARD..end]
-            }
+            Words::Values(values) => inside_mut(values),
             _ => panic!("{} is no slice of values", self.name),
         }
     }
@@ -69,6 +73,20 @@ impl Typed {
         match &self.words {
             Words::Indexes(indexes) => inside(indexes),
             _ => panic!("{} is no slice of indexes", self.name),
+        }
+    }
+
+    pub fn indexes_mut(&mut self) -> &mut [u32] {
+        match &mut self.words {
+            Words::Indexes(indexes) => inside_mut(indexes),
+            _ => panic!("{} is no slice of indexes", self.name),
+        }
+    }
+
+    pub fn levels_mut(&mut self) -> &mut [u16] {
+        match &mut self.words {
+            Words::Levels(levels) => inside_mut(levels),
+            _ => panic!("{} is no slice of levels", self.name),
         }
     }
 
@@ -84,6 +102,7 @@ impl Typed {
             Words::Values(_) => Element::Value,
             Words::Indexes(_) => Element::Index,
             Words::Flags(_) => Element::Flag,
+            Words::Levels(_) => Element::Level,
         }
     }
 
@@ -99,6 +118,7 @@ impl Typed {
             Words::Values(values) => values.iter().zip(before).map(one_nan).collect(),
             Words::Indexes(indexes) => indexes.iter().map(|&index| u64::from(index)).collect(),
             Words::Flags(flags) => flags.iter().map(|&flag| u64::from(flag as u32)).collect(),
+            Words::Levels(levels) => levels.iter().map(|&level| u64::from(level)).collect(),
         }
     }
 

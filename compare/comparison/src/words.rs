@@ -1,4 +1,4 @@
-// Doubles, indexes and flags as words and as bytes, low byte first, and when two doubles count as equal:
+// Doubles, indexes, flags and levels as words and as bytes, low byte first, and when two doubles count as equal:
 // if they are the same, or if both are a NaN of whatever pattern.
 
 /// What a word of a lent slice is.
@@ -10,6 +10,8 @@ pub enum Element {
     Index,
     /// An i32, of which the word has the 32 bits.
     Flag,
+    /// A u16.
+    Level,
 }
 
 impl Element {
@@ -18,6 +20,7 @@ impl Element {
         match self {
             Element::Value => 8,
             Element::Index | Element::Flag => 4,
+            Element::Level => 2,
         }
     }
 
@@ -34,15 +37,23 @@ impl Element {
                     .map(|word| u64::from(u32::from_le_bytes(*word)))
                     .collect()
             }
+            Element::Level => {
+                let words = bytes.as_chunks::<2>().0.iter();
+                words
+                    .map(|word| u64::from(u16::from_le_bytes(*word)))
+                    .collect()
+            }
         }
     }
 
-    /// The bytes of words, of which an index or a flag has the lower half.
+    /// The bytes of words, of which an index or a flag has the lower half and a level the lowest quarter.
     pub fn bytes_of(self, words: &[u64]) -> Vec<u8> {
         let low = |word: &u64| (*word as u32).to_le_bytes();
+        let lowest = |word: &u64| (*word as u16).to_le_bytes();
         match self {
             Element::Value => bytes_of(words),
             Element::Index | Element::Flag => words.iter().flat_map(low).collect(),
+            Element::Level => words.iter().flat_map(lowest).collect(),
         }
     }
 }
@@ -102,7 +113,7 @@ pub fn show_words(words: &[u64]) -> String {
     parts.join(", ")
 }
 
-/// Indexes as they are, flags with their sign.
+/// Indexes and levels as they are, flags with their sign.
 fn show_numbers(element: Element, words: &[u64]) -> String {
     let number = |word: u64| match element {
         Element::Flag => i64::from(word as u32 as i32),

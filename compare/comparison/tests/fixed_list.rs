@@ -45,7 +45,7 @@ fn all_lines() -> Vec<Line> {
 #[test]
 fn the_list_has_every_call_and_answer() {
     let lines = all_lines();
-    assert!((900..1100).contains(&lines.len()), "{} lines", lines.len());
+    assert!((1000..1200).contains(&lines.len()), "{} lines", lines.len());
     let has = |call: &str, dim: u32, number: u32| {
         let mut lines = lines.iter();
         lines.any(|line| (line.call.as_str(), line.dim, line.number) == (call, dim, number))
@@ -65,6 +65,13 @@ fn the_list_has_every_call_and_answer() {
         }
     }
     assert!(has("check_factor", 1, 11));
+    for number in [0, 1, 2, 3, 4] {
+        assert!(has("initialize_ilu0", 1, number), "ilu0 {number}");
+        assert!(has("initialize_iluk", 1, number), "iluk {number}");
+    }
+    for number in [0, 1, 2, 4] {
+        assert!(has("initialize_full", 1, number), "full {number}");
+    }
 }
 
 /// A reader without Rust keeps a line's words in a place of fixed length.
@@ -72,6 +79,6 @@ fn the_list_has_every_call_and_answer() {
 fn no_line_is_long() {
     for line in all_lines() {
         let words = line.inputs.len() + 2 + line.outputs.len();
-        assert!(words <= 125, "{} {}: {words} words", line.call, line.dim);
+        assert!(words <= 123, "{} {}: {words} words", line.call, line.dim);
     }
 }

@@ -1,5 +1,5 @@
 // Document 01's "Numbers to check by hand", run through the original: cases 1 to 3 and 5 to 12.
-// Case 4 is about room, which the original does not have.
+// Case 4 is about room, which the original does not have: it is in the comparison and in the fixed list.
 
 use del_msh_cpu::sparse_solver::cg;
 use del_msh_cpu::sparse_solver::sparse_ilu::{self, Preconditioner};
@@ -61,6 +61,22 @@ fn case_5() {
     let matrix = pattern(5, &[(0, 3), (0, 1), (1, 2), (2, 4)]);
     let entries = |k| filled(&matrix, k).idx2col.len();
     assert_eq!([0, 1, 2, 3].map(entries), [8, 10, 12, 14]);
+}
+
+/// Walk 6 3 1 0 5 0 2 4 7 meets row 0 twice and has nesting 4; without the turn to 5 it would have 5.
+#[test]
+fn a_needed_walk_may_meet_a_low_row_twice() {
+    let walk = [6, 3, 1, 0, 2, 4, 7];
+    let mut pairs: Vec<(usize, usize)> = walk.windows(2).map(|step| (step[0], step[1])).collect();
+    pairs.push((0, 5));
+    let stands = |matrix: &Matrix, k| {
+        let factor = filled(matrix, k);
+        factor.idx2col[factor.row2idx[6]..factor.row2idx[7]].contains(&7)
+    };
+    let turning = pattern(8, &pairs);
+    assert_eq!([3, 4].map(|k| stands(&turning, k)), [false, true]);
+    let straight = pattern(8, &pairs[..6]);
+    assert_eq!([4, 5].map(|k| stands(&straight, k)), [false, true]);
 }
 
 #[test]

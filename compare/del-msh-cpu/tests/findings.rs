@@ -377,3 +377,80 @@ fn vectors_may_have_no_row_or_any_number() {
     let ones = vec![[1.0]; 4097];
     assert_eq!(vtx2xn::dot(&ones, &ones), 4097.0);
 }
+
+/// Offsets, columns and splits that a fill of this matrix has: without fill, or at level k.
+fn pattern_by(matrix: &MatrixOwned<[f64; 1]>, k: Option<usize>) -> [Vec<usize>; 3] {
+    let mut factor = Preconditioner::<[f64; 1]>::new();
+    match k {
+        None => factor.initialize_ilu0(matrix),
+        Some(k) => factor.initialize_iluk(matrix, k),
+    }
+    [factor.row2idx, factor.idx2col, factor.row2idx_dia]
+}
+
+#[test]
+fn a_fill_takes_patterns_that_are_not_valid() {
+    // 01 refuses each by 3. A row's own column stays, before the split.
+    let own = matrix_of(&[0, 1, 1], &[0]);
+    for k in [None, Some(0), Some(1)] {
+        assert_eq!(pattern_by(&own, k), [vec![0, 1, 1], vec![0], vec![1, 1]]);
+    }
+    // A column that stands twice stays twice without fill, and once at level k.
+    let twice = matrix_of(&[0, 2, 2], &[1, 1]);
+    assert_eq!(
+        pattern_by(&twice, None),
+        [vec![0, 2, 2], vec![1, 1], vec![0, 2]]
+    );
+    let once = [vec![0, 1, 1], vec![1], vec![0, 1]];
+    assert_eq!(pattern_by(&twice, Some(0)), once);
+    // So do entries that no row has, before the first offset or after the last; at level k they are left out.
+    let before = matrix_of(&[1, 2, 2], &[1, 1]);
+    assert_eq!(
+        pattern_by(&before, None),
+        [vec![1, 2, 2], vec![1, 1], vec![1, 2]]
+    );
+    assert_eq!(pattern_by(&before, Some(0)), once);
+    let after = matrix_of(&[0, 1, 1], &[1, 0]);
+    assert_eq!(
+        pattern_by(&after, None),
+        [vec![0, 1, 1], vec![1, 0], vec![0, 1]]
+    );
+    assert_eq!(pattern_by(&after, Some(0)), once);
+    // Offsets that fall panic.
+    let falling = matrix_of(&[0, 1, 0], &[1]);
+    assert!(panics(|| drop(pattern_by(&falling, None))));
+    assert!(panics(|| drop(pattern_by(&falling, Some(0)))));
+}
+
+#[test]
+fn a_fill_at_level_k_may_write_a_column_beyond_n() {
+    // 01 refuses it by 3. Without fill it panics, at level k only where a row would take it over.
+    let beyond = matrix_of(&[0, 1, 2], &[5, 0]);
+    assert!(panics(|| drop(pattern_by(&beyond, None))));
+    assert_eq!(
+        pattern_by(&beyond, Some(0)),
+        [vec![0, 1, 2], vec![5, 0], vec![0, 2]]
+    );
+    assert!(panics(|| drop(pattern_by(&beyond, Some(1)))));
+}
+
+#[test]
+fn a_fill_may_have_no_row_or_any_number_of_entries() {
+    // 01 refuses the first by 1, the others by 4: there is never room for more than 65,535 entries.
+    let none = matrix_of(&[0], &[]);
+    for k in [None, Some(3)] {
+        assert_eq!(pattern_by(&none, k), [vec![0], vec![], vec![]]);
+    }
+    let mut factor = Preconditioner::<[f64; 1]>::new();
+    factor.initialize_full(257);
+    assert_eq!(factor.idx2col.len(), 65_792);
+    // Row 0 and its column are dense, so that level 1 fills every row.
+    let (mut offsets, mut columns): (Vec<usize>, Vec<usize>) = (vec![0], (1..257).collect());
+    for _ in 0..257 {
+        offsets.push(columns.len());
+        columns.push(0);
+    }
+    columns.pop();
+    let [_, columns, _] = pattern_by(&matrix_of(&offsets, &columns), Some(1));
+    assert_eq!(columns.len(), 65_792);
+}

@@ -150,6 +150,18 @@ wrap! {
     sort_row => pierbramble_sort_row(write columns: u8) -> Outcome
 }
 wrap! {
+    /// The pattern of a factor without fill: A's rows sorted, and their splits.
+    initialize_ilu0 => pierbramble_initialize_ilu0(read starts: u8, read entries: u8, write offsets: u8, write columns: u8, write splits: u8) -> Outcome
+}
+wrap! {
+    /// The pattern of a full factor: all other columns in each row.
+    initialize_full => pierbramble_initialize_full(take n: u32, write offsets: u8, write columns: u8, write splits: u8) -> Outcome
+}
+wrap! {
+    /// The pattern of a factor with fill up to level k.
+    initialize_iluk => pierbramble_initialize_iluk(read starts: u8, read entries: u8, take k: u32, write offsets: u8, write columns: u8, write splits: u8, write levels: u8, write row: u8) -> Outcome
+}
+wrap! {
     /// y*beta + (A*x)*alpha, to y.
     mult_vec => pierbramble_mult_vec(take dim: u32, read offsets: u8, read columns: u8, read values: u8, read diagonal: u8, write y: u8, take beta: f64, take alpha: f64, read x: u8) -> Outcome
 }
@@ -200,6 +212,18 @@ wrap! {
 wrap! {
     /// `check_pattern` on indexes.
     timed_check_pattern => pierbramble_timed_check_pattern(read offsets: u32, read columns: u32) -> u32
+}
+wrap! {
+    /// `initialize_ilu0` on indexes.
+    timed_initialize_ilu0 => pierbramble_timed_initialize_ilu0(read starts: u32, read entries: u32, write offsets: u32, write columns: u32, write splits: u32) -> u32
+}
+wrap! {
+    /// `initialize_full` on indexes.
+    timed_initialize_full => pierbramble_timed_initialize_full(take n: u32, write offsets: u32, write columns: u32, write splits: u32) -> u32
+}
+wrap! {
+    /// `initialize_iluk` on indexes and levels.
+    timed_initialize_iluk => pierbramble_timed_initialize_iluk(read starts: u32, read entries: u32, take k: u32, write offsets: u32, write columns: u32, write splits: u32, write levels: u16, write row: u32) -> u32
 }
 wrap! {
     /// `mult_vec` on values.

@@ -1,5 +1,5 @@
 // The port's C entry points, in the order of its crate `host`. This is the only place that declares them.
-// A lent slice is a pointer and a count of elements: bytes for `u8`, values for `f64`, words for `u32` and `i32`.
+// A lent slice is a pointer and a count of elements: bytes for `u8`, values for `f64`, words for `u32`, `i32` and `u16`.
 
 /// Document 01's number, 0 for done, and the row of number 9.
 #[repr(C)]
@@ -50,6 +50,9 @@ extern "C" {
     pub(crate) fn pierbramble_check_entries(offsets: *const u8, offsets_count: usize, columns: *const u8, columns_count: usize) -> Outcome;
     pub(crate) fn pierbramble_check_factor(offsets: *const u8, offsets_count: usize, columns: *const u8, columns_count: usize, splits: *const u8, splits_count: usize) -> Outcome;
     pub(crate) fn pierbramble_sort_row(columns: *mut u8, columns_count: usize) -> Outcome;
+    pub(crate) fn pierbramble_initialize_ilu0(starts: *const u8, starts_count: usize, entries: *const u8, entries_count: usize, offsets: *mut u8, offsets_count: usize, columns: *mut u8, columns_count: usize, splits: *mut u8, splits_count: usize) -> Outcome;
+    pub(crate) fn pierbramble_initialize_full(n: u32, offsets: *mut u8, offsets_count: usize, columns: *mut u8, columns_count: usize, splits: *mut u8, splits_count: usize) -> Outcome;
+    pub(crate) fn pierbramble_initialize_iluk(starts: *const u8, starts_count: usize, entries: *const u8, entries_count: usize, k: u32, offsets: *mut u8, offsets_count: usize, columns: *mut u8, columns_count: usize, splits: *mut u8, splits_count: usize, levels: *mut u8, levels_count: usize, row: *mut u8, row_count: usize) -> Outcome;
     pub(crate) fn pierbramble_mult_vec(dim: u32, offsets: *const u8, offsets_count: usize, columns: *const u8, columns_count: usize, values: *const u8, values_count: usize, diagonal: *const u8, diagonal_count: usize, y: *mut u8, y_count: usize, beta: f64, alpha: f64, x: *const u8, x_count: usize) -> Outcome;
     pub(crate) fn pierbramble_matrix_set_zero(dim: u32, offsets: *const u8, offsets_count: usize, columns: *const u8, columns_count: usize, values: *mut u8, values_count: usize, diagonal: *mut u8, diagonal_count: usize) -> Outcome;
     pub(crate) fn pierbramble_set_fixed_bc(dim: u32, val_dia: f64, flags: *const u8, flags_count: usize, diagonal: *mut u8, diagonal_count: usize, values: *mut u8, values_count: usize, offsets: *const u8, offsets_count: usize, columns: *const u8, columns_count: usize) -> Outcome;
@@ -63,6 +66,9 @@ extern "C" {
     pub(crate) fn pierbramble_timed_set_fixed(dim: u32, n: u32, values: *mut f64, values_count: usize, flags: *const i32, flags_count: usize) -> u32;
     pub(crate) fn pierbramble_timed_dot(dim: u32, n: u32, v0: *const f64, v0_count: usize, v1: *const f64, v1_count: usize) -> Summed;
     pub(crate) fn pierbramble_timed_check_pattern(offsets: *const u32, offsets_count: usize, columns: *const u32, columns_count: usize) -> u32;
+    pub(crate) fn pierbramble_timed_initialize_ilu0(starts: *const u32, starts_count: usize, entries: *const u32, entries_count: usize, offsets: *mut u32, offsets_count: usize, columns: *mut u32, columns_count: usize, splits: *mut u32, splits_count: usize) -> u32;
+    pub(crate) fn pierbramble_timed_initialize_full(n: u32, offsets: *mut u32, offsets_count: usize, columns: *mut u32, columns_count: usize, splits: *mut u32, splits_count: usize) -> u32;
+    pub(crate) fn pierbramble_timed_initialize_iluk(starts: *const u32, starts_count: usize, entries: *const u32, entries_count: usize, k: u32, offsets: *mut u32, offsets_count: usize, columns: *mut u32, columns_count: usize, splits: *mut u32, splits_count: usize, levels: *mut u16, levels_count: usize, row: *mut u32, row_count: usize) -> u32;
     pub(crate) fn pierbramble_timed_mult_vec(dim: u32, offsets: *const u32, offsets_count: usize, columns: *const u32, columns_count: usize, values: *const f64, values_count: usize, diagonal: *const f64, diagonal_count: usize, y: *mut f64, y_count: usize, beta: f64, alpha: f64, x: *const f64, x_count: usize) -> u32;
     pub(crate) fn pierbramble_unchecked_mult_vec(dim: u32, offsets: *const u32, offsets_count: usize, columns: *const u32, columns_count: usize, values: *const f64, values_count: usize, diagonal: *const f64, diagonal_count: usize, y: *mut f64, y_count: usize, beta: f64, alpha: f64, x: *const f64, x_count: usize);
     pub(crate) fn pierbramble_timed_merge(dim: u32, nodes: *const u32, nodes_count: usize, element: *const f64, element_count: usize, offsets: *const u32, offsets_count: usize, columns: *const u32, columns_count: usize, diagonal: *mut f64, diagonal_count: usize, values: *mut f64, values_count: usize) -> u32;

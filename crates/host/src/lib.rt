@@ -1,6 +1,7 @@
 // The entry points for a host: every call of the crates below, on numbers and lent byte slices, with N as a number.
-// A value is 8 bytes, an index or a flag 4, the low byte first. Bytes that are not those of the words that a call has at N are 2, and nothing has changed.
+// A value is 8 bytes, an index or a flag 4, a level 2, the low byte first. Bytes that are not those of the words that a call has at N are 2, and nothing has changed.
 pub mod element_calls;
+pub mod fill_calls;
 pub mod matrix_calls;
 pub mod pattern_calls;
 pub mod timed;

@@ -12,8 +12,8 @@ struct Form {
 }
 
 fn of_parts(slices: usize, numbers: usize, first: usize, written: usize) -> Form
-    requires { ⌜ (slices ≤ 7) × (numbers ≤ 3) × (first ≤ 7) × (written ≤ 2) ⌝ }
-    ensures { λ r. ⌜ (r .slices ≤ 7) × (r .numbers ≤ 3) × (r .first ≤ 7) × (r .written ≤ 2) ⌝ }
+    requires { ⌜ (slices ≤ 7) × (numbers ≤ 3) × (first ≤ 7) × (written ≤ 5) ⌝ }
+    ensures { λ r. ⌜ (r .slices ≤ 7) × (r .numbers ≤ 3) × (r .first ≤ 7) × (r .written ≤ 5) ⌝ }
 {
     Form {
         slices,
@@ -25,7 +25,7 @@ fn of_parts(slices: usize, numbers: usize, first: usize, written: usize) -> Form
 
 // A dot product leaves no slice but its sum, which is counted with its numbers.
 fn form_of(call: usize) -> Form
-    ensures { λ r. ⌜ (r .slices ≤ 7) × (r .numbers ≤ 3) × (r .first ≤ 7) × (r .written ≤ 2) ⌝ }
+    ensures { λ r. ⌜ (r .slices ≤ 7) × (r .numbers ≤ 3) × (r .first ≤ 7) × (r .written ≤ 5) ⌝ }
 {
     match call {
         0 => of_parts(1, 1, 0, 1),
@@ -40,7 +40,10 @@ fn form_of(call: usize) -> Form
         13 => of_parts(5, 1, 1, 2),
         14 => of_parts(6, 0, 4, 2),
         15 => of_parts(7, 0, 5, 2),
-        _ => of_parts(6, 0, 5, 1),
+        16 => of_parts(6, 0, 5, 1),
+        17 => of_parts(5, 0, 2, 3),
+        18 => of_parts(3, 1, 0, 3),
+        _ => of_parts(7, 1, 2, 5),
     }
 }
 

@@ -1,24 +1,32 @@
 // The calls of the list, in the list's order: first those on blocks and numbers, which the crate `block_lines` runs.
-// The calls on slices of any length are run by the crate `plate_lines`; their numbers come after.
+// The calls on slices of any length are run by the crates `plate_lines` and `fill_lines`; their numbers come after.
 use crate::case::Case;
 use texts::Text;
 
 // How many calls the list has; a name that is none has this number.
-pub const CALLS: usize = 27;
+pub const CALLS: usize = 30;
 
 pub fn index_of(name: &[u8]) -> usize {
     let call = block_lines::index_of(name);
     if call < block_lines::CALLS {
         return call;
     }
-    block_lines::CALLS + plate_lines::index_of(name)
+    let next = plate_lines::index_of(name);
+    if next < plate_lines::CALLS {
+        return block_lines::CALLS + next;
+    }
+    block_lines::CALLS + plate_lines::CALLS + fill_lines::index_of(name)
 }
 
 pub fn name_of(call: usize) -> Text {
     if call < block_lines::CALLS {
         return block_lines::name_of(call);
     }
-    plate_lines::name_of(call - block_lines::CALLS)
+    let next = call - block_lines::CALLS;
+    if next < plate_lines::CALLS {
+        return plate_lines::name_of(next);
+    }
+    fill_lines::name_of(next - plate_lines::CALLS)
 }
 
 // Whether a line of the call has so many words.
@@ -39,5 +47,9 @@ pub fn agrees(case: Case) -> bool {
     if call < block_lines::CALLS {
         return block_lines::agrees(call, dim, words);
     }
-    plate_lines::agrees(call - block_lines::CALLS, dim, words)
+    let next = call - block_lines::CALLS;
+    if next < plate_lines::CALLS {
+        return plate_lines::agrees(next, dim, words);
+    }
+    fill_lines::agrees(next - plate_lines::CALLS, words)
 }

@@ -10,6 +10,7 @@ use std::time::{Duration, Instant, SystemTime, UNIX_EPOCH};
 use comparison::random::Random;
 use comparison::stack;
 use comparison::timed::blocks::BLOCKS;
+use comparison::timed::fills::FILLS;
 use comparison::timed::plates::PLATES;
 use comparison::timed::{ordinary, Inputs, Side, Timed};
 use comparison::words;
@@ -21,7 +22,7 @@ struct Section {
     times: &'static str,
 }
 
-const SECTIONS: [Section; 2] = [
+const SECTIONS: [Section; 3] = [
     Section {
         calls: BLOCKS,
         columns: "by count of blocks (values for the root)",
@@ -31,6 +32,11 @@ const SECTIONS: [Section; 2] = [
         calls: PLATES,
         columns: "by rows of a vector or of a square plate whose nodes have 8 neighbours",
         times: "Nanoseconds for a row (for an element of merge)",
+    },
+    Section {
+        calls: FILLS,
+        columns: "by rows of a pattern, which is that of the plate where no other is named",
+        times: "Nanoseconds for a row",
     },
 ];
 
@@ -191,6 +197,13 @@ impl Row {
     }
 }
 
+/// One call at one N, with a row for each size that it is measured at.
+struct Line {
+    timed: &'static Timed,
+    dim: usize,
+    rows: [Option<Row>; SIZES.len()],
+}
+
 /// Medians of a row, in seconds for the whole call; none for the original where it has no such call.
 struct Medians {
     port: f64,
@@ -220,9 +233,10 @@ fn main() {
 fn measure() {
     let random = &mut Random::new(SEED);
     let rounds = rounds();
-    let mut sections = SECTIONS.map(|section| rows(&section, rounds, random));
+    let mut sections = SECTIONS.map(|section| lines(&section, rounds, random));
     for round in 1..=rounds {
-        for row in sections.iter_mut().flatten() {
+        let lines = sections.iter_mut().flatten();
+        for row in lines.flat_map(|line| line.rows.iter_mut().flatten()) {
             eprint!(
                 "\rround {round} of {rounds}: {}, N = {}, size {}          ",
                 row.timed.name, row.dim, row.size
@@ -236,25 +250,27 @@ fn measure() {
         "Medians of {} runs of each side, interleaved.",
         rounds * RUNS
     );
-    for (section, rows) in SECTIONS.iter().zip(&sections) {
-        print_tables(section, rows);
+    for (section, lines) in SECTIONS.iter().zip(&sections) {
+        print_tables(section, lines);
     }
 }
 
-/// Every call of a section at every N and size.
-fn rows(section: &Section, rounds: usize, random: &mut Random) -> Vec<Row> {
-    let mut rows = Vec::new();
+/// Every call of a section at every N, and at every size that it has.
+fn lines(section: &Section, rounds: usize, random: &mut Random) -> Vec<Line> {
+    let mut lines = Vec::new();
     for timed in section.calls {
         for &dim in timed.dims {
-            for size in SIZES {
-                rows.push(Row::new(timed, dim, size, rounds, random));
-            }
+            let rows = SIZES.map(|size| {
+                let measured = (timed.units)(size) > 0;
+                measured.then(|| Row::new(timed, dim, size, rounds, random))
+            });
+            lines.push(Line { timed, dim, rows });
         }
     }
-    rows
+    lines
 }
 
-fn print_tables(section: &Section, rows: &[Row]) {
+fn print_tables(section: &Section, lines: &[Line]) {
     println!();
     println!(
         "Time of the port / time of the Rust, {}, and growth: the time at 4,096 over the time at 256, 16 where it is linear.",
@@ -263,34 +279,37 @@ fn print_tables(section: &Section, rows: &[Row]) {
     println!();
     println!("| call | N | 64 | 256 | 1,024 | 4,096 | growth, port | growth, Rust |");
     println!("|---|---|---|---|---|---|---|---|");
-    for sizes in rows.chunks(SIZES.len()) {
-        print_ratios(sizes);
+    for line in lines {
+        print_ratios(line);
     }
     println!();
     println!("{}, port / Rust:", section.times);
     println!();
     println!("| call | N | 64 | 256 | 1,024 | 4,096 |");
     println!("|---|---|---|---|---|---|");
-    for sizes in rows.chunks(SIZES.len()) {
-        print_times(sizes);
+    for line in lines {
+        print_times(line);
     }
 }
 
-fn medians(sizes: &[Row]) -> Vec<Medians> {
-    let each = |row: &Row| Medians {
-        port: median(&row.port),
-        rust: row.rust.as_ref().map(median),
-    };
-    sizes.iter().map(each).collect()
-}
+impl Line {
+    /// At each size.
+    fn medians(&self) -> Vec<Option<Medians>> {
+        let each = |row: &Row| Medians {
+            port: median(&row.port),
+            rust: row.rust.as_ref().map(median),
+        };
+        self.rows.iter().map(|row| row.as_ref().map(each)).collect()
+    }
 
-/// The call and its N, as the first two fields of a table's line.
-fn name(row: &Row) -> String {
-    let call = row.timed.name.trim_start_matches("timed_");
-    if row.timed.dims.len() > 1 {
-        format!("{call} | {}", row.dim)
-    } else {
-        format!("{call} | -")
+    /// The call and its N, as the first two fields of a table's line.
+    fn name(&self) -> String {
+        let call = self.timed.name.trim_start_matches("timed_");
+        if self.timed.dims.len() > 1 {
+            format!("{call} | {}", self.dim)
+        } else {
+            format!("{call} | -")
+        }
     }
 }
 
@@ -299,34 +318,45 @@ fn shown(number: Option<f64>, decimals: usize) -> String {
     number.map_or("-".to_string(), |number| format!("{number:.decimals$}"))
 }
 
-fn print_ratios(sizes: &[Row]) {
-    let medians = medians(sizes);
+/// The larger over the smaller, if both were measured.
+fn growth(large: Option<f64>, small: Option<f64>) -> String {
+    shown(large.zip(small).map(|(large, small)| large / small), 1)
+}
+
+fn print_ratios(line: &Line) {
+    let medians = line.medians();
+    let ratio = |m: &Medians| m.rust.map(|rust| m.port / rust);
     let ratios: Vec<String> = medians
         .iter()
-        .map(|m| shown(m.rust.map(|rust| m.port / rust), 2))
+        .map(|m| shown(m.as_ref().and_then(ratio), 2))
         .collect();
     let (small, large) = (&medians[GROWTH.0], &medians[GROWTH.1]);
-    let rust = large.rust.zip(small.rust);
+    let port = |m: &Option<Medians>| m.as_ref().map(|m| m.port);
+    let rust = |m: &Option<Medians>| m.as_ref().and_then(|m| m.rust);
     println!(
-        "| {} | {} | {:.1} | {} |",
-        name(&sizes[0]),
+        "| {} | {} | {} | {} |",
+        line.name(),
         ratios.join(" | "),
-        large.port / small.port,
-        shown(rust.map(|(large, small)| large / small), 1)
+        growth(port(large), port(small)),
+        growth(rust(large), rust(small))
     );
 }
 
-fn print_times(sizes: &[Row]) {
-    let times: Vec<String> = medians(sizes)
+fn print_times(line: &Line) {
+    let medians = line.medians();
+    let times: Vec<String> = medians
         .iter()
-        .zip(sizes)
-        .map(|(m, row)| {
-            let each = 1e9 / (row.timed.units)(row.size) as f64;
-            let rust = m.rust.map(|rust| rust * each);
-            format!("{:.2} / {}", m.port * each, shown(rust, 2))
+        .zip(SIZES)
+        .map(|(m, size)| {
+            let each = 1e9 / (line.timed.units)(size) as f64;
+            let time = |m: &Medians| {
+                let rust = m.rust.map(|rust| rust * each);
+                format!("{:.2} / {}", m.port * each, shown(rust, 2))
+            };
+            m.as_ref().map_or("-".to_string(), time)
         })
         .collect();
-    println!("| {} | {} |", name(&sizes[0]), times.join(" | "));
+    println!("| {} | {} |", line.name(), times.join(" | "));
 }
 
 fn processor() -> String {

@@ -4,6 +4,7 @@
 pub mod blocks;
 pub mod checks;
 pub mod elements;
+pub mod fills;
 pub mod inverse;
 pub mod matrix;
 pub mod patterns;
@@ -39,4 +40,5 @@ pub const ALL: &[Group] = &[
     patterns::GROUP,
     matrix::GROUP,
     elements::GROUP,
+    fills::GROUP,
 ];

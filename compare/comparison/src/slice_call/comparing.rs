@@ -125,7 +125,7 @@ impl SliceCall {
         let worked = asked.then(|| answer_of_original(|| (self.oracle)(&reading)));
         match worked.flatten() {
             Some(worked) if number == rules::DONE => Some(self.done(worked)),
-            None if number != rules::DONE => Some(self.refused(number)),
+            None if number != rules::DONE => Some(self.refused(number, given)),
             worked => {
                 let lengths: Vec<usize> = given.slices.iter().map(Vec::len).collect();
                 tally.differs(self.name, self.label(given.dim), || {
@@ -137,10 +137,24 @@ impl SliceCall {
         }
     }
 
-    fn refused(&self, number: u32) -> Expected {
+    fn refused(&self, number: u32, given: &Given) -> Expected {
+        let sum = self.sums.then_some(0);
+        if !rules::CLEARED.contains(&number) {
+            return Expected {
+                sum,
+                ..Expected::refused(number, self.slices().count())
+            };
+        }
+        let slices = self.slices().zip(&given.slices);
+        let after = slices.map(|(slice, bytes)| match slice.access {
+            Access::Read => After::Unchanged,
+            _ => After::Bytes(vec![0; bytes.len()]),
+        });
         Expected {
-            sum: self.sums.then_some(0),
-            ..Expected::refused(number, self.slices().count())
+            number,
+            row: 0,
+            after: after.collect(),
+            sum,
         }
     }
 

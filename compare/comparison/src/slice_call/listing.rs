@@ -36,6 +36,9 @@ impl SliceCall {
             outputs.extend(worked.sum.map(words::word_of));
         } else {
             outputs.extend(self.written_words(&given.slices));
+            if rules::CLEARED.contains(&number) {
+                outputs.fill(0);
+            }
             outputs.extend(self.sums.then_some(0));
         }
         Line {

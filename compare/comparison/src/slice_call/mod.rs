@@ -1,4 +1,4 @@
-// The form that calls on several lent slices share, of values, indexes and flags: what such a call takes,
+// The form that calls on several lent slices share, of values, indexes, flags and levels: what such a call takes,
 // what it is given, and what the original makes of it. How it is compared and listed is in the modules below.
 
 mod comparing;
@@ -206,7 +206,7 @@ impl Fill {
 pub type Indexes<'a> = [(&'static str, &'a [u32])];
 
 impl SliceCall {
-    fn slices(&self) -> impl Iterator<Item = &'static Slice> {
+    pub fn slices(&self) -> impl Iterator<Item = &'static Slice> {
         self.takes.iter().filter_map(|take| match take {
             Take::Slice(slice) => Some(slice),
             _ => None,
@@ -265,9 +265,9 @@ impl Slice {
         fill: Fill,
         random: &mut Random,
     ) -> Vec<u64> {
-        if self.element == Element::Index {
+        if self.element == Element::Index && self.access != Access::Write {
             let named = indexes.iter().find(|(name, _)| *name == self.name);
-            let (_, indexes) = named.expect("every slice of indexes is given");
+            let (_, indexes) = named.expect("every slice of indexes that is read is given");
             return indexes.iter().map(|&index| u64::from(index)).collect();
         }
         let right = self.length.right(counts).expect("a length by the counts");
@@ -277,8 +277,16 @@ impl Slice {
         }
         match (self.element, self.access) {
             (Element::Flag, _) => values::flags(count, random),
-            (_, Access::Write) => (0..count).map(|_| random.bits()).collect(),
+            (Element::Value, Access::Write) => (0..count).map(|_| random.bits()).collect(),
+            (_, Access::Write) => dirt(count, random),
             _ => fill.values(count, random),
         }
     }
+}
+
+/// What indexes and levels hold before they are written: any bits, or small numbers, which the call might take
+/// for its own.
+fn dirt(count: usize, random: &mut Random) -> Vec<u64> {
+    let limit = *random.pick(&[2, 8, 1 << 32]);
+    (0..count).map(|_| random.below(limit) as u64).collect()
 }

@@ -86,13 +86,22 @@ impl Reading<'_> {
         }
     }
 
-    /// n is given, or one less than the offsets.
+    /// n is given, or one less than the offsets of the pattern that is read: `starts` if another one is written.
     fn rows(&self) -> usize {
         if self.has_number("n") {
-            self.count("n") as usize
-        } else {
-            self.length("offsets").saturating_sub(1)
+            return self.count("n") as usize;
         }
+        let read = if self.has_slice("starts") {
+            "starts"
+        } else {
+            "offsets"
+        };
+        self.length(read).saturating_sub(1)
+    }
+
+    /// How many entries there is room for.
+    pub fn room(&self) -> usize {
+        self.length("columns")
     }
 
     /// What lengths are worked out from. An element's nodes are counted in its first list.

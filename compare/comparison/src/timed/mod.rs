@@ -1,9 +1,11 @@
 // What is measured: the port's timed calls, and the same work by the original on the same buffers.
-// `blocks` has calls on many blocks, `plates` has calls on vectors and on the matrix of a plate.
+// `blocks` has calls on many blocks, `plates` on vectors and on the matrix of a plate, `fills` those of a factor's pattern.
 
 pub mod blocks;
+pub mod fills;
 pub mod plates;
 
+use self::fills::Fill;
 use crate::random::Random;
 use crate::values::{self, Kind};
 use crate::words;
@@ -18,6 +20,8 @@ pub struct Inputs {
     pub flags: Vec<i32>,
     /// The buffer that the original's merge keeps from element to element.
     pub buffer: Vec<usize>,
+    /// What a fill reads and writes, on either side.
+    pub fill: Option<Fill>,
 }
 
 impl Inputs {
@@ -36,7 +40,7 @@ pub struct Timed {
     pub name: &'static str,
     /// The N that it is measured at; one entry for a call without N.
     pub dims: &'static [usize],
-    /// What there are many of, and how many at a size: the time is given for one.
+    /// What there are many of, and how many at a size, 0 where it is not measured: the time is given for one.
     pub unit: &'static str,
     pub units: fn(usize) -> usize,
     /// Inputs for this N and size.
