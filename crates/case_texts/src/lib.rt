@@ -32,6 +32,39 @@ pub fn element_call(call: usize) -> Text {
     }
 }
 
+pub fn fill_call(call: usize) -> Text {
+    match call {
+        0 => of_bytes(b"initialize_ilu0"),
+        1 => of_bytes(b"initialize_full"),
+        _ => of_bytes(b"initialize_iluk"),
+    }
+}
+
+// The large patterns of the fill calls.
+pub fn plate(kind: usize) -> Text {
+    match kind {
+        0 => of_bytes(b"no entry"),
+        1 => of_bytes(b"a last row that names all others, falling"),
+        2 => of_bytes(b"an arrow, whose last row and column are dense"),
+        _ => of_bytes(b"a band, 64 nodes wide"),
+    }
+}
+
+// The small patterns of the fill calls, as each is called.
+pub fn small_fill(case: usize) -> Text {
+    match case {
+        0 => of_bytes(b"case 1, P at k = 0"),
+        1 => of_bytes(b"case 2, P at k = 1"),
+        2 => of_bytes(b"case 3, P at k = 2"),
+        3 => of_bytes(b"P at k = 4294967295"),
+        4 => of_bytes(b"P, initialize_ilu0"),
+        5 => of_bytes(b"case 6, one row at k = 4294967295"),
+        6 => of_bytes(b"one row, initialize_ilu0"),
+        7 => of_bytes(b"one row, initialize_full"),
+        _ => of_bytes(b"case 7, three rows, initialize_full"),
+    }
+}
+
 // The cases of a pattern: its rules, its rows, and those of a factor.
 pub fn rule(case: usize) -> Text {
     match case {
@@ -89,8 +122,22 @@ pub fn heading(group: usize) -> Text {
             b"column nodes short, long; a row node that is n; a column node that is n; a node twice; a pair without an entry; that and a node that is n;\n",
         ),
         7 => of_bytes(b"own columns; those and a wrong length; both and no row.\n"),
-        _ => of_bytes(
+        8 => of_bytes(
             b"Element calls of one node at N = 1: 4096 rows, 4097 rows, 65535 columns, 65536 columns.\n",
+        ),
+        9 => of_bytes(
+            b"Fill calls, a dash where a call has no such slice: right; offsets short, long; splits short, long; levels short, long; row short, long; room one\n",
+        ),
+        10 => of_bytes(
+            b"short; own columns; those and a wrong length; both and no row; room 65535, 65536; no entry and no room; 4096 rows, 4097 rows without an entry;\n",
+        ),
+        11 => of_bytes(b"65535 entries, 65536 entries.\n"),
+        12 => of_bytes(
+            b"Fill of 4096 rows, number and entries: initialize_ilu0; initialize_iluk at k = 0, 1, 2, 3, 4294967295.\n",
+        ),
+        13 => of_bytes(b"Fill calls on small patterns: number, offsets, columns, splits.\n"),
+        _ => of_bytes(
+            b"Room at k = 0, 1, 2, 3: the entries, then the number in room for them and in room one short.\n",
         ),
     }
 }

@@ -1,6 +1,7 @@
 // Runs document 01's cases by calls of the library, and prints what each answers: the number, then values as their 64 bits.
-// Today: the pivots of cases 8 and 9, inverses and products at their edges, case 12, and every refusal of the vector, pattern, matrix and element calls.
+// Today: the pivots of cases 8 and 9, inverses and products at their edges, cases 1 to 7 and 12, and every refusal of the vector, pattern, matrix, element and fill calls.
 pub mod element_cases;
+pub mod fill_cases;
 pub mod matrix_cases;
 pub mod pattern_cases;
 pub mod vector_cases;
@@ -115,4 +116,5 @@ fn main() {
     pattern_cases::run();
     matrix_cases::run();
     element_cases::run();
+    fill_cases::run();
 }
