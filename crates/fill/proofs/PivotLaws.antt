@@ -154,6 +154,3 @@ module _ (i a b : ℕ) (ao ac : List ℕ) (ok : validPattern ao ac ≡ true) (hi
 
 pub levelled-as : {A : Pattern} {k m n p i : ℕ} {row : List ℕ} → m ≡ n → Levelled A k n p i row → Levelled A k m p i row
 levelled-as e L = rw e L
-
-pub levelled-at : {A : Pattern} {k n p q i : ℕ} {row : List ℕ} → p ≡ q → Levelled A k n p i row → Levelled A k n q i row
-levelled-at e L = rw (← e) L

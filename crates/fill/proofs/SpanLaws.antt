@@ -14,6 +14,7 @@ use lib.ListN.{length, getD, set, take, drop, replicate}
 use lib.Seq.{getD-set-other}
 use Rattle.base.proofs.Iterate.{iterate-keeps}
 use Rattle.walks.specs.Levels.{Pattern}
+use Rattle.walks.proofs.Highest.{le-or-lt}
 use Rattle.fill.specs.Fill.{columnsFrom, levelsFrom}
 use Rattle.fill.specs.Steps.{levelIn, levelsIn, Levelled, least, spreadOne, spreadAll, loadOne, loaded, Within, Spans}
 use Rattle.fill.proofs.Lists.{columns-add, levels-add}
@@ -109,6 +110,21 @@ pub skip-below : (A : Pattern) (k n i low high : ℕ) (row : List ℕ) → Level
 skip-below A k n i low high row L W hi zero a b = L
 skip-below A k n i low high row L W hi (suc m) a b =
     rw (← add-one) (skip-none A k n m i row (skip-below A k n i low high row L W hi m (omega arith) (omega arith)) b hi (W .before m a))
+
+-- nor do pivots above it
+skip-above : (A : Pattern) (k n i low high : ℕ) (row : List ℕ) → Within low high row → i < n → (p d : ℕ) → Levelled A k n p i row → high ≤ p → p + d ≤ i → Levelled A k n (p + d) i row
+skip-above A k n i low high row W hi p zero L a b = let e : p + 0 ≡ p = omega arith in rw e L
+skip-above A k n i low high row W hi p (suc d) L a b =
+    let e : p + suc d ≡ p + d + 1 = omega arith in
+    rw e (skip-none A k n (p + d) i row (skip-above A k n i low high row W hi p d L a (omega arith)) (omega arith) hi (W .after (p + d) (omega arith)))
+
+-- so that after the last pivot within the span all have given what they give
+pub skip-rest : (A : Pattern) (k n i low high p : ℕ) (row : List ℕ) → Levelled A k n p i row → Within low high row → i < n → p ≤ i → min high i ≤ p → Levelled A k n i i row
+skip-rest A k n i low high p row L W hi a b = go (le-or-lt i p)
+  where
+    go : (i ≤ p) ⊎ (p < i) → Levelled A k n i i row
+    go (inl q) = let e : p ≡ i = omega arith in rw e at L
+    go (inr q) = let e : p + (i - p) ≡ i = omega arith in rw e at (skip-above A k n i low high row W hi p (i - p) L (omega arith) (omega arith))
 
 -- a span of zeros put over the span
 pub zeros-over : (low high : ℕ) (row : List ℕ) → Within low high row → low ≤ high → high ≤ length row

@@ -207,7 +207,7 @@ fn start_row(row: &mut [u32], i: usize, offsets: &[u32], columns: &[u32]) -> Spa
     span_of(&columns[a..b], row.len())
 }
 
-// The levels of row i. Pivots below its span give nothing.
+// The levels of row i. Pivots outside its span give nothing: a row that has few columns far below its own is not gone through.
 pub fn row_levels(
     row: &mut [u32],
     i: u32,
@@ -227,10 +227,12 @@ pub fn row_levels(
     let low = span.low;
     let mut high = span.high;
     let mut p = lesser(low, own);
-    while p < own {
+    let mut end = lesser(high, own);
+    while p < end {
         let s = wide(splits[p]);
         let e = wide(offsets[p + 1]);
         high = take_pivot(row, i, k, p, s, e, columns, levels, high);
+        end = lesser(high, own);
         p += 1;
     }
     Span {
