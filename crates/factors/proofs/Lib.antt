@@ -1,0 +1,3 @@
+-- What the definitions of the factor's calls compute.
+-- Assumes nothing.
+pub mod Examples
