@@ -90,7 +90,7 @@ pub record Apart (t : FactorPattern) : Type 0 where
   pub within : (i : ℕ) → i < rowsOf (t .offsets) → getD (t .offsets) (i + 1) 0 ≤ length (t .columns)
   pub split : (i : ℕ) → i < rowsOf (t .offsets) → getD (t .offsets) i 0 ≤ getD (t .splits) i 0
 
-split-is : (o cs splits : List ℕ) → validSplits o cs splits ≡ true → (i : ℕ) → i < rowsOf o → getD splits i 0 ≡ splitOf o cs i
+pub split-is : (o cs splits : List ℕ) → validSplits o cs splits ≡ true → (i : ℕ) → i < rowsOf o → getD splits i 0 ≡ splitOf o cs i
 unfolding validSplits trueSplits
 split-is o cs splits valid i inside =
     eqb-true (getD splits i 0) (splitOf o cs i)

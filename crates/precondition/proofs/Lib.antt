@@ -1,0 +1,6 @@
+-- What is proved about the calls, besides each function's promise.
+-- Assumes nothing.
+pub mod StepLaws
+pub mod FitLaws
+pub mod CheckLaws
+pub mod CheckOrder

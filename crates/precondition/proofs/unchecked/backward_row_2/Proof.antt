@@ -1,0 +1,17 @@
+-- `unchecked::backward_row_2` meets its promise: the row is read, taken from and put back.
+-- Assumes nothing.
+use lib.Ieee.{binary64}
+use borrow.Author.Needs.{needs}
+use Rattle.precondition.proofs.StepLaws.{joined-backward}
+use Rattle.precondition.proofs.unchecked.backward_row_2.Statement.{statement}
+use Rattle.precondition.proofs.unchecked.backward_row_2.Tie as tie
+
+returns : tie.Need-returns
+returns c =
+    let a = c .before .before .before .before .before .before .before .before .before .before .before .before .args in
+    joined-backward binary64 2 (a .part .now) (a .first) (a .values .now) (a .i) (a .vec .now) _ _ _
+    (c .before .before .before .before .before .before .before .vector-2 .ensures) (c .before .before .before .before .before .less-part-2 .ensures) (c .before .before .put .ensures)
+
+pub backward-row-2-spec : {M : Type 1} → statement M
+backward-row-2-spec =
+    tie.close (tie.spec (λ c κs. search needs) (λ c κs. search needs) (λ c. search needs) (λ c. search needs) (λ c κs. search needs) (λ c. search needs) returns)
