@@ -2,3 +2,4 @@
 -- Assumes nothing.
 pub mod WayLaws
 pub mod CallLaws
+pub mod Agreement
