@@ -1,0 +1,3 @@
+-- What is proved about places by marks, besides each function's promise.
+-- Assumes nothing.
+pub mod PlaceLaws
