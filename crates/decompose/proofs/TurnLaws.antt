@@ -16,7 +16,8 @@ use Rattle.lent.specs.Steps.{Within, inverseOr, inverseAt}
 use Rattle.fixing.proofs.BlockLaws.{put-back}
 use Rattle.factors.specs.Factor.{FactorPattern, FactorValues, Decomposed, reduceRow, invertPivot, finishRow, decomposeFrom}
 use Rattle.factors.proofs.Stopped.{from-on, from-stop}
-use Rattle.decompose.specs.Steps.{factorOf, multiplyRow, stoppedAt}
+use Rattle.reducing.specs.Lent.{factorOf}
+use Rattle.decompose.specs.Steps.{multiplyRow, stoppedAt}
 
 -- what an inverse answers says whether the pivot is singular
 pub refused : (b : Bool) (number : ℕ) → number ≡ firstOf ((9 when b) ∷ []) → (number ≡ 0 → ⊥) → b ≡ true

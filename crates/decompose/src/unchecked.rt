@@ -1,43 +1,30 @@
-// `decompose_N` without checks, with N as the number `dim`: a function for each of the nested loops, and the work on a block for each N.
-// These functions ask that the factor's pattern is valid and that the lengths fit it, so that no user calls them.
+// `decompose_N` without checks, with N as the number `dim`: rows are reduced, their pivots inverted, and their upper entries multiplied.
+// These functions ask that the factor is valid and that the lengths fit it, so that no user calls them.
 use answers::Answer;
-use answers::Index;
+use answers::Refusal;
 use blocks::unchecked::block_1;
 use blocks::unchecked::block_2;
 use blocks::unchecked::block_3;
 use blocks::unchecked::put;
-use rows::unchecked::place_in_rising;
+use factor_check::unchecked::check_rows;
+use factor_check::unchecked::is_wrong_factor;
+use patterns::is_too_large;
+use reducing::unchecked::reduce_row;
 ghost use mathlib.Core.Path.{_≡_};
-ghost use mathlib.Core.List.{List};
-ghost use Prim.Native.Nat.{ℕ, _*_, _<_};
+ghost use Prim.Native.Nat.{_*_, _≤_, _<_};
 ghost use lib.ListN.{length};
 ghost use lib.Ieee.{binary64};
+ghost use Rattle.base.specs.Iterate.{iterate};
+ghost use Rattle.answers.specs.Checks.{firstOf};
+ghost use Rattle.answers.specs.Numbers.{numberOf};
 ghost use Rattle.blocks.specs.Lent.{blockAt};
 ghost use Rattle.lent.specs.Steps.{Dim, Within, Inverting, inverseAt};
 ghost use Rattle.patterns.specs.Pattern.{rowsOf};
-ghost use Rattle.factors.specs.Factor.{Decomposed, lessBlock, takeFrom, takeProduct, takePivot, reduceRow, multiplyEntry, decompose};
-ghost use Rattle.decompose.specs.Steps.{patternOf, factorOf, EntriesFit, FactorFits, multiplyRow, stoppedAt};
-
-// Block w of out, less another block.
-fn less_block(out: &mut [f64], w: usize, dim: usize, block: &[f64])
-    requires { ⌜ (Dim dim) × (Within (dim * dim) w (length (now out))) × (length (now block) ≡ dim * dim) ⌝ }
-    ensures { λ _. ⌜ now (out .exit) ≡ lessBlock binary64 dim w (now (block .entry)) (now (out .entry)) ⌝ }
-{
-    match dim {
-        1 => {
-            let p = blocks::subtract_1(block_1(out, w), block_1(block, 0));
-            put(out, 1 * w, &p);
-        }
-        2 => {
-            let p = blocks::subtract_block_2(block_2(out, w), block_2(block, 0));
-            put(out, 4 * w, &p);
-        }
-        _ => {
-            let p = blocks::subtract_block_3(block_3(out, w), block_3(block, 0));
-            put(out, 9 * w, &p);
-        }
-    }
-}
+ghost use Rattle.factors.specs.Factor.{Decomposed, multiplyEntry, decompose};
+ghost use Rattle.reducing.specs.Lent.{patternOf, factorOf};
+ghost use Rattle.factor_check.specs.Fits.{FactorFits};
+ghost use Rattle.decompose.specs.Promise.{earlierChecks};
+ghost use Rattle.decompose.specs.Steps.{multiplyRow, stoppedAt};
 
 // The pivot of row i, inverted. It answers 9 if that can't be done, and then the pivot stays.
 fn invert_pivot(diagonal: &mut [f64], i: usize, dim: usize) -> Answer
@@ -66,129 +53,47 @@ fn invert_pivot(diagonal: &mut [f64], i: usize, dim: usize) -> Answer
     }
 }
 
-// Entry g, multiplied from the left by the block of row i.
-fn multiply_entry(values: &mut [f64], g: usize, dim: usize, diagonal: &[f64], i: usize)
-    requires { ⌜ (Dim dim) × (Within (dim * dim) g (length (now values))) × (Within (dim * dim) i (length (now diagonal))) ⌝ }
-    ensures { λ _. ⌜ factorOf (now (diagonal .entry)) (now (values .exit)) ≡ multiplyEntry binary64 dim i g (factorOf (now (diagonal .entry)) (now (values .entry))) ⌝ }
+// The upper entries of row i, from the first to before the end, multiplied from the left by the row's block.
+fn multiply_row_1(values: &mut [f64], diagonal: &[f64], i: usize, first: usize, end: usize)
+    requires { ⌜ (Within 1 i (length (now diagonal))) × (first ≤ end) × (1 * end ≤ length (now values)) ⌝ }
+    ensures { λ _. ⌜ factorOf (now (diagonal .entry)) (now (values .exit)) ≡ iterate (multiplyEntry binary64 1 i) first end (factorOf (now (diagonal .entry)) (now (values .entry))) ⌝ }
 {
-    match dim {
-        1 => {
-            let p = blocks::product_1(block_1(diagonal, i), block_1(values, g));
-            put(values, 1 * g, &p);
-        }
-        2 => {
-            let p = blocks::product_2(block_2(diagonal, i), block_2(values, g));
-            put(values, 4 * g, &p);
-        }
-        _ => {
-            let p = blocks::product_3(block_3(diagonal, i), block_3(values, g));
-            put(values, 9 * g, &p);
-        }
-    }
-}
-
-// A block is taken from (i, j): from the diagonal, from the entry in row i, or from nothing.
-fn take_from(
-    diagonal: &mut [f64],
-    values: &mut [f64],
-    dim: usize,
-    offsets: &[u32],
-    columns: &[u32],
-    i: usize,
-    j: u32,
-    block: &[f64],
-)
-    requires { ⌜ (EntriesFit dim (now offsets) (now columns) (length (now diagonal)) (length (now values))) × (i < rowsOf (now offsets)) × (length (now block) ≡ dim * dim) ⌝ }
-    ensures { λ _. ⌜ ((splits : List ℕ) → factorOf (now (diagonal .exit)) (now (values .exit)) ≡ takeFrom binary64 dim (patternOf (now (offsets .entry)) (now (columns .entry)) splits) i j (now (block .entry)) (factorOf (now (diagonal .entry)) (now (values .entry)))) ⌝ }
-{
-    if j as usize == i {
-        less_block(diagonal, i, dim, block);
-        return;
-    }
-    let from = offsets[i] as usize;
-    let to = offsets[i + 1] as usize;
-    let place = place_in_rising(&columns[from..to], j);
-    if place != Index::NO_PLACE {
-        less_block(values, from + place as usize, dim, block);
-    }
-}
-
-// Entry e is (i, p) and entry g is (p, j): their product is taken from (i, j).
-fn take_product(
-    diagonal: &mut [f64],
-    values: &mut [f64],
-    dim: usize,
-    offsets: &[u32],
-    columns: &[u32],
-    i: usize,
-    e: usize,
-    g: usize,
-)
-    requires { ⌜ (EntriesFit dim (now offsets) (now columns) (length (now diagonal)) (length (now values))) × (i < rowsOf (now offsets)) × (e < length (now columns)) × (g < length (now columns)) ⌝ }
-    ensures { λ _. ⌜ ((splits : List ℕ) → factorOf (now (diagonal .exit)) (now (values .exit)) ≡ takeProduct binary64 dim (patternOf (now (offsets .entry)) (now (columns .entry)) splits) i e g (factorOf (now (diagonal .entry)) (now (values .entry)))) ⌝ }
-{
-    let j = columns[g];
-    match dim {
-        1 => {
-            let p = blocks::product_1(block_1(values, e), block_1(values, g));
-            take_from(diagonal, values, dim, offsets, columns, i, j, &p);
-        }
-        2 => {
-            let p = blocks::product_2(block_2(values, e), block_2(values, g));
-            take_from(diagonal, values, dim, offsets, columns, i, j, &p);
-        }
-        _ => {
-            let p = blocks::product_3(block_3(values, e), block_3(values, g));
-            take_from(diagonal, values, dim, offsets, columns, i, j, &p);
-        }
-    }
-}
-
-// The upper entries of row p in order, where entry e is (i, p).
-fn take_pivot(
-    diagonal: &mut [f64],
-    values: &mut [f64],
-    dim: usize,
-    offsets: &[u32],
-    columns: &[u32],
-    splits: &[u32],
-    i: usize,
-    e: usize,
-)
-    requires { ⌜ (FactorFits dim (now offsets) (now columns) (now splits) (length (now diagonal)) (length (now values))) × (i < rowsOf (now offsets)) × (e < length (now columns)) ⌝ }
-    ensures { λ _. ⌜ factorOf (now (diagonal .exit)) (now (values .exit)) ≡ takePivot binary64 dim (patternOf (now (offsets .entry)) (now (columns .entry)) (now (splits .entry))) i e (factorOf (now (diagonal .entry)) (now (values .entry))) ⌝ }
-{
-    let p = columns[e] as usize;
-    let to = offsets[p + 1] as usize;
-    let mut g = splits[p] as usize;
-    while g < to {
-        take_product(diagonal, values, dim, offsets, columns, i, e, g);
+    let pivot = block_1(diagonal, i);
+    let mut g = first;
+    while g < end {
+        let all = blocks::product_1(pivot, block_1(values, g));
+        put(values, 1 * g, &all);
         g += 1;
     }
 }
 
-// The lower entries of row i in order.
-fn reduce_row(
-    diagonal: &mut [f64],
-    values: &mut [f64],
-    dim: usize,
-    offsets: &[u32],
-    columns: &[u32],
-    splits: &[u32],
-    i: usize,
-)
-    requires { ⌜ (FactorFits dim (now offsets) (now columns) (now splits) (length (now diagonal)) (length (now values))) × (i < rowsOf (now offsets)) ⌝ }
-    ensures { λ _. ⌜ factorOf (now (diagonal .exit)) (now (values .exit)) ≡ reduceRow binary64 dim (patternOf (now (offsets .entry)) (now (columns .entry)) (now (splits .entry))) i (factorOf (now (diagonal .entry)) (now (values .entry))) ⌝ }
+fn multiply_row_2(values: &mut [f64], diagonal: &[f64], i: usize, first: usize, end: usize)
+    requires { ⌜ (Within 4 i (length (now diagonal))) × (first ≤ end) × (4 * end ≤ length (now values)) ⌝ }
+    ensures { λ _. ⌜ factorOf (now (diagonal .entry)) (now (values .exit)) ≡ iterate (multiplyEntry binary64 2 i) first end (factorOf (now (diagonal .entry)) (now (values .entry))) ⌝ }
 {
-    let to = splits[i] as usize;
-    let mut e = offsets[i] as usize;
-    while e < to {
-        take_pivot(diagonal, values, dim, offsets, columns, splits, i, e);
-        e += 1;
+    let pivot = block_2(diagonal, i);
+    let mut g = first;
+    while g < end {
+        let all = blocks::product_2(pivot, block_2(values, g));
+        put(values, 4 * g, &all);
+        g += 1;
     }
 }
 
-// The upper entries of row i, multiplied from the left by the row's block.
+fn multiply_row_3(values: &mut [f64], diagonal: &[f64], i: usize, first: usize, end: usize)
+    requires { ⌜ (Within 9 i (length (now diagonal))) × (first ≤ end) × (9 * end ≤ length (now values)) ⌝ }
+    ensures { λ _. ⌜ factorOf (now (diagonal .entry)) (now (values .exit)) ≡ iterate (multiplyEntry binary64 3 i) first end (factorOf (now (diagonal .entry)) (now (values .entry))) ⌝ }
+{
+    let pivot = block_3(diagonal, i);
+    let mut g = first;
+    while g < end {
+        let all = blocks::product_3(pivot, block_3(values, g));
+        put(values, 9 * g, &all);
+        g += 1;
+    }
+}
+
+// The same with N as a number.
 fn multiply_row(
     values: &mut [f64],
     diagonal: &[f64],
@@ -201,11 +106,12 @@ fn multiply_row(
     requires { ⌜ (FactorFits dim (now offsets) (now columns) (now splits) (length (now diagonal)) (length (now values))) × (i < rowsOf (now offsets)) ⌝ }
     ensures { λ _. ⌜ factorOf (now (diagonal .entry)) (now (values .exit)) ≡ multiplyRow binary64 dim (patternOf (now (offsets .entry)) (now (columns .entry)) (now (splits .entry))) i (factorOf (now (diagonal .entry)) (now (values .entry))) ⌝ }
 {
-    let to = offsets[i + 1] as usize;
-    let mut g = splits[i] as usize;
-    while g < to {
-        multiply_entry(values, g, dim, diagonal, i);
-        g += 1;
+    let first = splits[i] as usize;
+    let end = offsets[i + 1] as usize;
+    match dim {
+        1 => multiply_row_1(values, diagonal, i, first, end),
+        2 => multiply_row_2(values, diagonal, i, first, end),
+        _ => multiply_row_3(values, diagonal, i, first, end),
     }
 }
 
@@ -221,10 +127,20 @@ pub fn decompose(
     requires { ⌜ FactorFits dim (now offsets) (now columns) (now splits) (length (now diagonal)) (length (now values)) ⌝ }
     ensures { λ r. ⌜ _≡_ {A = Decomposed} (record { left = factorOf (now (diagonal .exit)) (now (values .exit)); stopped = stoppedAt (rowsOf (now (offsets .entry))) r }) (decompose binary64 dim (patternOf (now (offsets .entry)) (now (columns .entry)) (now (splits .entry))) (factorOf (now (diagonal .entry)) (now (values .entry)))) ⌝ }
 {
+    let mut marks = [0u8; 4096];
     let n = offsets.len() - 1;
     let mut i = 0;
     while i < n {
-        reduce_row(diagonal, values, dim, offsets, columns, splits, i);
+        reduce_row(
+            diagonal,
+            values,
+            &mut marks,
+            dim,
+            offsets,
+            columns,
+            splits,
+            i,
+        );
         let answer = invert_pivot(diagonal, i, dim);
         if answer.number() != 0 {
             return i;
@@ -233,4 +149,26 @@ pub fn decompose(
         i += 1;
     }
     n
+}
+
+// The checks before the first word is written: 1 and 2 by the lengths, then 3, of the pattern, and 11, of its rows and splits.
+pub fn check_decompose(
+    dim: usize,
+    offsets: &[u32],
+    columns: &[u32],
+    splits: &[u32],
+    diagonal: usize,
+    values: usize,
+) -> Answer
+    requires { ⌜ Dim dim ⌝ }
+    ensures { λ r. ⌜ numberOf r ≡ firstOf (earlierChecks dim (now (offsets .entry)) (now (columns .entry)) (now (splits .entry)) diagonal values) ⌝ }
+{
+    if is_too_large(offsets.len(), columns.len()) {
+        return Answer::Refused(Refusal::Size);
+    }
+    let rows = offsets.len() - 1;
+    if is_wrong_factor(dim, rows, columns.len(), splits.len(), diagonal, values) {
+        return Answer::Refused(Refusal::Shape);
+    }
+    check_rows(offsets, columns, splits)
 }

@@ -1,4 +1,4 @@
--- Worked examples computed from the definitions: document 01's cases 8 and 9, and two rows of blocks at N = 2 and N = 3.
+-- Worked examples computed from the definitions: document 01's cases 8 and 9, three rows at N = 1, and two rows of blocks at N = 2 and N = 3.
 -- Assumes nothing.
 use mathlib.Core.Path.{_≡_, refl}
 use mathlib.Core.List.{[], _∷_}
@@ -49,6 +49,26 @@ case-9 : decompose binary64 1 pair (record { diagonal = plus 1 ∷ plus 1 ∷ []
     ≡ record { left = record { diagonal = plus 1 ∷ plus 0 ∷ []; values = plus 1 ∷ plus 1 ∷ [] }; stopped = some 1 }
 unfolding decompose decomposeFrom reduceRow takePivot takeProduct takeFrom lessBlock finishRow invertPivot multiplyEntry iterate steps putAt rowOf placeIn firstIn add sub mul div neg eq ofBits ofInt round units span climb size sum odd
 case-9 = refl
+
+-- three rows that all name each other: (2, 4, 6), (2, 5, 8), (3, 10, 18). Row 2 takes its pivots in order: the second is 10 - 3 * 2 = 4 by then
+three-rows : decompose binary64 1 (record { offsets = 0 ∷ 2 ∷ 4 ∷ 6 ∷ []; columns = 1 ∷ 2 ∷ 0 ∷ 2 ∷ 0 ∷ 1 ∷ []; splits = 0 ∷ 3 ∷ 6 ∷ [] })
+    (record { diagonal = plus 2 ∷ plus 5 ∷ plus 18 ∷ []; values = plus 4 ∷ plus 6 ∷ plus 2 ∷ plus 8 ∷ plus 3 ∷ plus 10 ∷ [] })
+    ≡ record {
+      left = record { diagonal = half ∷ plus 1 ∷ plus 1 ∷ []; values = plus 2 ∷ plus 3 ∷ plus 2 ∷ plus 2 ∷ plus 3 ∷ plus 4 ∷ [] };
+      stopped = none;
+    }
+unfolding decompose decomposeFrom reduceRow takePivot takeProduct takeFrom lessBlock finishRow invertPivot multiplyEntry iterate steps putAt rowOf placeIn firstIn add sub mul div neg eq ofBits ofInt round units span climb size sum odd
+three-rows = refl
+
+-- (1, 2, 3), (1, 3, .), (2, ., 7): the products at the absent (1, 2) and (2, 1) are dropped
+two-dropped : decompose binary64 1 (record { offsets = 0 ∷ 2 ∷ 3 ∷ 4 ∷ []; columns = 1 ∷ 2 ∷ 0 ∷ 0 ∷ []; splits = 0 ∷ 3 ∷ 4 ∷ [] })
+    (record { diagonal = plus 1 ∷ plus 3 ∷ plus 7 ∷ []; values = plus 2 ∷ plus 3 ∷ plus 1 ∷ plus 2 ∷ [] })
+    ≡ record {
+      left = record { diagonal = plus 1 ∷ plus 1 ∷ plus 1 ∷ []; values = plus 2 ∷ plus 3 ∷ plus 1 ∷ plus 2 ∷ [] };
+      stopped = none;
+    }
+unfolding decompose decomposeFrom reduceRow takePivot takeProduct takeFrom lessBlock finishRow invertPivot multiplyEntry iterate steps putAt rowOf placeIn firstIn add sub mul div neg eq ofBits ofInt round units span climb size sum odd
+two-dropped = refl
 
 -- k halves, for odd k
 abbrev halves : ℕ → Float

@@ -12,8 +12,8 @@ struct Form {
 }
 
 fn of_parts(slices: usize, numbers: usize, first: usize, written: usize) -> Form
-    requires { ⌜ (slices ≤ 7) × (numbers ≤ 3) × (first ≤ 7) × (written ≤ 5) ⌝ }
-    ensures { λ r. ⌜ (r .slices ≤ 7) × (r .numbers ≤ 3) × (r .first ≤ 7) × (r .written ≤ 5) ⌝ }
+    requires { ⌜ (slices ≤ 9) × (numbers ≤ 3) × (first ≤ 7) × (written ≤ 5) ⌝ }
+    ensures { λ r. ⌜ (r .slices ≤ 9) × (r .numbers ≤ 3) × (r .first ≤ 7) × (r .written ≤ 5) ⌝ }
 {
     Form {
         slices,
@@ -25,7 +25,7 @@ fn of_parts(slices: usize, numbers: usize, first: usize, written: usize) -> Form
 
 // A dot product leaves no slice but its sum, which is counted with its numbers.
 fn form_of(call: usize) -> Form
-    ensures { λ r. ⌜ (r .slices ≤ 7) × (r .numbers ≤ 3) × (r .first ≤ 7) × (r .written ≤ 5) ⌝ }
+    ensures { λ r. ⌜ (r .slices ≤ 9) × (r .numbers ≤ 3) × (r .first ≤ 7) × (r .written ≤ 5) ⌝ }
 {
     match call {
         0 => of_parts(1, 1, 0, 1),
@@ -43,14 +43,17 @@ fn form_of(call: usize) -> Form
         16 => of_parts(6, 0, 5, 1),
         17 => of_parts(5, 0, 2, 3),
         18 => of_parts(3, 1, 0, 3),
-        _ => of_parts(7, 1, 2, 5),
+        19 => of_parts(7, 1, 2, 5),
+        20 => of_parts(9, 0, 7, 2),
+        21 => of_parts(5, 0, 3, 2),
+        _ => of_parts(6, 0, 0, 1),
     }
 }
 
 // So many counts from a place on, added.
 fn counts_from(words: [u64; 128], at: usize, count: usize) -> usize
-    requires { ⌜ (at ≤ 7) × (count ≤ 7) ⌝ }
-    ensures { λ r. ⌜ r ≤ 896 ⌝ }
+    requires { ⌜ (at ≤ 7) × (count ≤ 9) ⌝ }
+    ensures { λ r. ⌜ r ≤ 1152 ⌝ }
 {
     let mut sum = 0;
     let mut k = 0;

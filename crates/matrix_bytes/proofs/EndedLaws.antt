@@ -16,7 +16,7 @@ use Rattle.wire.specs.Words.{indexesIn}
 use Rattle.wire.proofs.WordLaws.{length-indexes}
 use Rattle.pattern_bytes.specs.Checks.{byteChecks}
 
-none-left : (earlier later : List Check) → noneHolds (earlier ++ later) ≡ true → noneHolds earlier ≡ true
+pub none-left : (earlier later : List Check) → noneHolds (earlier ++ later) ≡ true → noneHolds earlier ≡ true
 none-left [] later none = refl
 none-left ((k when true) ∷ earlier) later none = none
 none-left ((k when false) ∷ earlier) later none = none-left earlier later none

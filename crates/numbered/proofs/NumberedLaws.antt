@@ -40,7 +40,7 @@ module _ {A : Type 0} (later : List Check) (answer : Answer) (new old left : A) 
   once true outside inside end = record { number = end .number; lent = end .lent }
   once false outside inside end = record { number = rw inside at (end .number); lent = rw inside at (end .lent) }
 
-other-dim : (d : ℕ) → (d ≡ 1 → ⊥) → (d ≡ 2 → ⊥) → (d ≡ 3 → ⊥) → outsideOf 1 3 d ≡ true
+pub other-dim : (d : ℕ) → (d ≡ 1 → ⊥) → (d ≡ 2 → ⊥) → (d ≡ 3 → ⊥) → outsideOf 1 3 d ≡ true
 other-dim zero one two three = refl
 other-dim (suc zero) one two three = absurd (one refl)
 other-dim (suc (suc zero)) one two three = absurd (two refl)

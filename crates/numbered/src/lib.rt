@@ -32,7 +32,7 @@ pub fn is_no_dim(dim: u32) -> bool
 }
 
 // Why a call at another N refuses: the size of its pattern is checked first.
-fn refusal(offsets: usize, columns: usize) -> Refusal
+pub fn refusal(offsets: usize, columns: usize) -> Refusal
     ensures { λ r. ⌜ refusalNumber r ≡ cond (tooLarge offsets columns) 1 2 ⌝ }
 {
     if is_too_large(offsets, columns) {

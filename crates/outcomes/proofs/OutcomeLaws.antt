@@ -18,7 +18,7 @@ use Rattle.outcomes.specs.Calls.{Lent, _bytes-for_, wrongBytes, misshape
 use Rattle.outcomes.specs.declared.Outcome.{Outcome}
 
 -- only 9 carries a row
-no-row : (a : Answer) → (numberOf a ≡ 9 → ⊥) → rowOf a ≡ 0
+pub no-row : (a : Answer) → (numberOf a ≡ 9 → ⊥) → rowOf a ≡ 0
 no-row Done other = refl
 no-row (Refused Size) other = refl
 no-row (Refused Limit) other = refl

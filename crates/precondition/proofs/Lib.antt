@@ -1,6 +1,4 @@
 -- What is proved about the calls, besides each function's promise.
 -- Assumes nothing.
-pub mod StepLaws
-pub mod FitLaws
 pub mod CheckLaws
 pub mod CheckOrder

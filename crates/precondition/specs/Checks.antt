@@ -1,19 +1,17 @@
 -- What the calls refuse, in checking order: the lengths first, then the pattern, then sorted rows and splits.
 -- Definitions only.
 use mathlib.Core.List.{List, [], _∷_}
-use mathlib.Core.Bool.{Bool, not, _||_}
+use mathlib.Core.Bool.{Bool, _||_}
 use Prim.Native.Nat.{ℕ, _-_}
-use lib.Dec.{eqb}
 use lib.ListN.{length}
 use Rattle.answers.specs.Checks.{Check, _when_}
 use Rattle.answers.specs.Limits.{wrongLength}
-use Rattle.patterns.specs.Pattern.{validPattern, validSplits}
 use Rattle.patterns.specs.Checks.{tooLarge}
-use Rattle.matrix.specs.Checks.{wrongValues}
+use Rattle.factor_check.specs.Checks.{wrongFactor, rowChecks}
 
--- a split to each row, a block to each row and to each entry, and a vector of N values to each row
+-- the lengths of the factor, and a vector of N values to each row
 abbrev pub wrongShape : ℕ → ℕ → ℕ → ℕ → ℕ → ℕ → ℕ → Bool
-wrongShape n rows entries splits diagonal values vec = wrongValues n rows entries values diagonal || (not (eqb splits rows) || wrongLength rows n vec)
+wrongShape n rows entries splits diagonal values vec = wrongFactor n rows entries splits diagonal values || wrongLength rows n vec
 
 -- the checks by the lengths
 abbrev pub solveLengths : ℕ → ℕ → ℕ → ℕ → ℕ → ℕ → ℕ → List Check
@@ -24,5 +22,4 @@ solveLengths n offsets columns splits diagonal values vec =
 abbrev pub solveChecks : ℕ → List ℕ → List ℕ → List ℕ → ℕ → ℕ → ℕ → List Check
 solveChecks n offsets columns splits diagonal values vec =
     (1 when tooLarge (length offsets) (length columns))
-    ∷ (2 when wrongShape n (length offsets - 1) (length columns) (length splits) diagonal values vec)
-    ∷ (3 when not (validPattern offsets columns)) ∷ (11 when not (validSplits offsets columns splits)) ∷ []
+    ∷ (2 when wrongShape n (length offsets - 1) (length columns) (length splits) diagonal values vec) ∷ rowChecks offsets columns splits

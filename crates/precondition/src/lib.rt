@@ -3,6 +3,7 @@
 pub mod unchecked;
 
 use answers::Answer;
+use solving::unchecked::solve_preconditioning_vec;
 use unchecked::check_solve;
 ghost use lib.ListN.{length};
 ghost use lib.Ieee.{binary64};
@@ -37,7 +38,7 @@ fn solve_checked(
     if answer.number() != 0 {
         return answer;
     }
-    unchecked::solve_preconditioning_vec(vec, dim, offsets, columns, splits, diagonal, values);
+    solve_preconditioning_vec(vec, dim, offsets, columns, splits, diagonal, values);
     answer
 }
 

@@ -1,10 +1,10 @@
 // The calls of the list, in the list's order: first those on blocks and numbers, which the crate `block_lines` runs.
-// The calls on slices of any length are run by the crates `plate_lines` and `fill_lines`; their numbers come after.
+// The calls on slices of any length are run by the crates `plate_lines`, `fill_lines` and `factor_lines`; their numbers come after.
 use crate::case::Case;
 use texts::Text;
 
 // How many calls the list has; a name that is none has this number.
-pub const CALLS: usize = 30;
+pub const CALLS: usize = 33;
 
 pub fn index_of(name: &[u8]) -> usize {
     let call = block_lines::index_of(name);
@@ -15,7 +15,11 @@ pub fn index_of(name: &[u8]) -> usize {
     if next < plate_lines::CALLS {
         return block_lines::CALLS + next;
     }
-    block_lines::CALLS + plate_lines::CALLS + fill_lines::index_of(name)
+    let third = fill_lines::index_of(name);
+    if third < fill_lines::CALLS {
+        return block_lines::CALLS + plate_lines::CALLS + third;
+    }
+    block_lines::CALLS + plate_lines::CALLS + fill_lines::CALLS + factor_lines::index_of(name)
 }
 
 pub fn name_of(call: usize) -> Text {
@@ -26,7 +30,11 @@ pub fn name_of(call: usize) -> Text {
     if next < plate_lines::CALLS {
         return plate_lines::name_of(next);
     }
-    fill_lines::name_of(next - plate_lines::CALLS)
+    let third = next - plate_lines::CALLS;
+    if third < fill_lines::CALLS {
+        return fill_lines::name_of(third);
+    }
+    factor_lines::name_of(third - fill_lines::CALLS)
 }
 
 // Whether a line of the call has so many words.
@@ -51,5 +59,9 @@ pub fn agrees(case: Case) -> bool {
     if next < plate_lines::CALLS {
         return plate_lines::agrees(next, dim, words);
     }
-    fill_lines::agrees(next - plate_lines::CALLS, words)
+    let third = next - plate_lines::CALLS;
+    if third < fill_lines::CALLS {
+        return fill_lines::agrees(third, words);
+    }
+    factor_lines::agrees(third - fill_lines::CALLS, dim, words)
 }

@@ -1,0 +1,5 @@
+-- What is proved about the copy, besides each function's promise.
+-- Assumes nothing.
+pub mod JoinLaws
+pub mod RowLaws
+pub mod AllLaws

@@ -1,0 +1,5 @@
+-- What the contracts of the crate cite.
+-- Definitions only.
+pub mod Checks
+pub mod Fits
+pub mod Steps

@@ -1,0 +1,4 @@
+-- What the contracts of the crate cite.
+-- Definitions only.
+pub mod Lent
+pub mod Fits
