@@ -1,4 +1,4 @@
-// Links the port's static library libhost.a, from the folder that PIERBRAMBLE_STATICLIB names
+// Links the port's static libraries, libhost.a and libfactor_host.a, from the folder that PIERBRAMBLE_STATICLIB names
 // or else from target/staticlib of the repository that this workspace stands in.
 
 use std::env;
@@ -13,22 +13,32 @@ fn default_folder() -> PathBuf {
     Path::new(&crate_folder).join("../../target/staticlib")
 }
 
-fn main() {
-    println!("cargo:rerun-if-env-changed={FOLDER}");
-    println!("cargo:rerun-if-changed=build.rs");
-    let folder = env::var_os(FOLDER).map_or_else(default_folder, PathBuf::from);
-    let library = folder.join("libhost.a");
+/// The libraries, each named as its crate is.
+const LIBRARIES: [&str; 2] = ["host", "factor_host"];
+
+/// Links one of them, or says how it is built.
+fn link(folder: &Path, name: &str) {
+    let library = folder.join(format!("lib{name}.a"));
     println!("cargo:rerun-if-changed={}", library.display());
     let Ok(library) = library.canonicalize() else {
         eprintln!(
-            "The port's static library is not there: {}",
+            "A static library of the port is not there: {}",
             library.display()
         );
-        eprintln!("Build it with `rt staticlib host` in the repository,");
-        eprintln!("or name the folder that holds libhost.a in {FOLDER} (an absolute path).");
+        eprintln!("Build it with `rt staticlib {name}` in the repository,");
+        eprintln!("or name the folder that holds it in {FOLDER} (an absolute path).");
         exit(1);
     };
     let folder = library.parent().expect("a file stands in a folder");
     println!("cargo:rustc-link-search=native={}", folder.display());
-    println!("cargo:rustc-link-lib=static=host");
+    println!("cargo:rustc-link-lib=static={name}");
+}
+
+fn main() {
+    println!("cargo:rerun-if-env-changed={FOLDER}");
+    println!("cargo:rerun-if-changed=build.rs");
+    let folder = env::var_os(FOLDER).map_or_else(default_folder, PathBuf::from);
+    for name in LIBRARIES {
+        link(&folder, name);
+    }
 }

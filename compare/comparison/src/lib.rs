@@ -2,6 +2,7 @@
 // The groups themselves, with their generators, oracles and refusals, are in `groups`.
 
 pub mod byte_call;
+pub mod factored;
 pub mod groups;
 pub mod judge;
 pub mod lent;

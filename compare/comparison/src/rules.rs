@@ -17,6 +17,7 @@ pub const PATTERN: u32 = 3;
 pub const SPLIT: u32 = 11;
 pub const NODE: u32 = 6;
 pub const NO_ENTRY: u32 = 7;
+pub const NO_PLACE: u32 = 8;
 pub const ROOM: u32 = 4;
 pub const SINGULAR: u32 = 9;
 
@@ -92,6 +93,8 @@ pub struct Counts {
     pub rows: usize,
     /// The entries of a pattern that is read, or the room for those of one that is written.
     pub entries: usize,
+    /// The entries of A, where it is lent beside a factor.
+    pub entries_of_a: usize,
     pub nodes: usize,
 }
 
@@ -118,6 +121,8 @@ pub enum Length {
     Diagonal,
     /// "Entry values B per entry."
     Entries,
+    /// The same of A's entries, where it is lent beside a factor.
+    EntriesOfA,
     /// "Nodes m of an element: 1 to 8", in each of an element's lists.
     Nodes,
     /// "Element values m*m*B."
@@ -127,8 +132,13 @@ pub enum Length {
 impl Length {
     /// The right number of words; None where any number is.
     pub fn right(self, counts: &Counts) -> Option<u128> {
-        let [rows, entries, nodes] =
-            [counts.rows, counts.entries, counts.nodes].map(|count| count as u128);
+        let [rows, entries, entries_of_a, nodes] = [
+            counts.rows,
+            counts.entries,
+            counts.entries_of_a,
+            counts.nodes,
+        ]
+        .map(|count| count as u128);
         let dim = u128::from(counts.dim);
         let block = dim * dim;
         match self {
@@ -139,6 +149,7 @@ impl Length {
             Length::Rows | Length::RowsOrMore => Some(dim * rows),
             Length::Diagonal => Some(block * rows),
             Length::Entries => Some(block * entries),
+            Length::EntriesOfA => Some(block * entries_of_a),
             Length::Nodes => Some(nodes),
             Length::Element => Some(nodes * nodes * block),
         }
@@ -277,6 +288,23 @@ pub fn is_wrongly_split(pattern: &Pattern, splits: &[u32]) -> bool {
     !rows_rise(pattern) || !splits_are_right(pattern, splits)
 }
 
+/// "Two patterns differ in n."
+pub fn differ_in_n(a: &Pattern, factor: &Pattern) -> bool {
+    a.rows() != factor.rows()
+}
+
+/// "`copy_value`: an entry of A is absent from the factor." A row that the factor does not have holds none.
+pub fn lacks_a_place(a: &Pattern, factor: &Pattern) -> bool {
+    !a.every_row(|i, row| {
+        let places = if i < factor.rows() {
+            factor.row(i)
+        } else {
+            &[]
+        };
+        row.iter().all(|column| places.contains(column))
+    })
+}
+
 /// "The pattern to be written has more entries than room."
 pub fn lacks_room(entries: u128, room: usize) -> bool {
     entries > room as u128
@@ -373,6 +401,15 @@ mod tests {
         assert!(is_valid_with_own_columns(&pattern(&[0, 0, 1], &[1])));
         assert!(!rows_rise(&pattern(&[0, 2, 2, 2], &[2, 1])));
         assert!(is_too_large(&pattern(&[0], &[])) && !is_too_large(&pattern(&[0, 0], &[])));
+    }
+
+    #[test]
+    fn two_patterns() {
+        let (less, more) = (pattern(&[0, 0, 1], &[0]), pattern(&[0, 1, 2], &[1, 0]));
+        assert!(!lacks_a_place(&less, &more) && lacks_a_place(&more, &less));
+        assert!(!lacks_a_place(&less, &less) && !differ_in_n(&less, &more));
+        let longer = pattern(&[0, 1, 2, 2], &[1, 0]);
+        assert!(differ_in_n(&longer, &more) && !lacks_a_place(&longer, &more));
     }
 
     #[test]

@@ -81,6 +81,13 @@ impl Sparse {
         Sparse::of_rows(&rows)
     }
 
+    /// Without one entry, if there is one.
+    pub fn less_one(&self, random: &mut Random) -> Option<Sparse> {
+        let (row, places) = self.some_row(1, random)?;
+        let column = *random.pick(&self.columns[places]);
+        Some(self.without(row as u32, column))
+    }
+
     /// A row with at least so many entries, if there is one: its number and its places.
     fn some_row(&self, least: usize, random: &mut Random) -> Option<(usize, Range<usize>)> {
         let rows = (0..self.n()).filter(|&i| self.places(i).len() >= least);
@@ -250,6 +257,36 @@ pub fn any_long(random: &mut Random) -> Sparse {
     } else {
         pattern
     }
+}
+
+/// Neighbours in each row, and so many entries at random columns in some rows, spread from the second to the last.
+pub fn with_long_rows(n: usize, lengths: &[usize], random: &mut Random) -> Sparse {
+    let mut rows: Vec<Vec<u32>> = (0..n).map(|_| Vec::new()).collect();
+    for (at, &length) in lengths.iter().enumerate() {
+        let i = (at + 1) * (n - 1) / lengths.len();
+        let mut others: Vec<u32> = (0..n as u32).filter(|&j| j as usize != i).collect();
+        shuffle(&mut others, random);
+        others.truncate(length);
+        rows[i] = others;
+    }
+    for (i, row) in rows.iter_mut().enumerate() {
+        if row.is_empty() {
+            let near = i.saturating_sub(2)..(i + 4).min(n);
+            *row = near.filter(|&j| j != i).map(|j| j as u32).collect();
+        }
+    }
+    Sparse::of_rows(&rows)
+}
+
+/// Some of the entries, each with a chance of `parts` in 16.
+pub fn some_of(pattern: &Sparse, parts: usize, random: &mut Random) -> Sparse {
+    let rows: Vec<Vec<u32>> = (0..pattern.n())
+        .map(|i| {
+            let row = pattern.columns[pattern.places(i)].iter().copied();
+            row.filter(|_| random.below(16) < parts).collect()
+        })
+        .collect();
+    Sparse::of_rows(&rows)
 }
 
 /// Each entry with a chance of `parts` in 16.

@@ -115,7 +115,7 @@ impl Tally {
 
     pub fn print(&self) {
         println!(
-            "{:<25} {:>5} {:>10} {:>10} {:>9} {:>7}  cases by answer",
+            "{:<41} {:>5} {:>10} {:>10} {:>9} {:>7}  cases by answer",
             "call", "N", "cases", "words", "NaN words", "differ"
         );
         for key in &self.order {
@@ -127,7 +127,7 @@ impl Tally {
                 .map(|(number, cases)| format!("{number}: {cases}"))
                 .collect();
             println!(
-                "{:<25} {:>5} {cases:>10} {:>10} {:>9} {:>7}  {}",
+                "{:<41} {:>5} {cases:>10} {:>10} {:>9} {:>7}  {}",
                 key.0,
                 key.1.to_string(),
                 row.words,

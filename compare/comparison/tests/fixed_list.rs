@@ -45,7 +45,7 @@ fn all_lines() -> Vec<Line> {
 #[test]
 fn the_list_has_every_call_and_answer() {
     let lines = all_lines();
-    assert!((1000..1200).contains(&lines.len()), "{} lines", lines.len());
+    assert!((1200..1500).contains(&lines.len()), "{} lines", lines.len());
     let has = |call: &str, dim: u32, number: u32| {
         let mut lines = lines.iter();
         lines.any(|line| (line.call.as_str(), line.dim, line.number) == (call, dim, number))
@@ -71,6 +71,14 @@ fn the_list_has_every_call_and_answer() {
     }
     for number in [0, 1, 2, 4] {
         assert!(has("initialize_full", 1, number), "full {number}");
+    }
+    for dim in 1..=3 {
+        for number in [0, 1, 2, 3, 11] {
+            for call in ["copy_value", "decompose", "solve_preconditioning_vec"] {
+                assert!(has(call, dim, number), "{call} {dim} {number}");
+            }
+        }
+        assert!(has("copy_value", dim, 8) && has("decompose", dim, 9));
     }
 }
 

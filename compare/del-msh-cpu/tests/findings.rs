@@ -454,3 +454,57 @@ fn a_fill_may_have_no_row_or_any_number_of_entries() {
     let [_, columns, _] = pattern_by(&matrix_of(&offsets, &columns), Some(1));
     assert_eq!(columns.len(), 65_792);
 }
+
+/// A factor of N = 1 with this pattern and these splits, whose diagonal is 2 each and whose entries are 8 each.
+fn factor_with(offsets: &[usize], columns: &[usize], splits: &[usize]) -> Preconditioner<[f64; 1]> {
+    Preconditioner {
+        num_blk: splits.len(),
+        row2idx: offsets.to_vec(),
+        idx2col: columns.to_vec(),
+        row2idx_dia: splits.to_vec(),
+        idx2val: vec![[8.0]; columns.len()],
+        row2val: vec![[2.0]; splits.len()],
+    }
+}
+
+#[test]
+fn copy_value_writes_before_it_panics() {
+    // The entry (1,0) has no place in the factor: 01 refuses it by 8, and no word has changed.
+    let matrix = matrix_of(&[0, 1, 2], &[1, 0]);
+    let mut factor = factor_with(&[0, 1, 1], &[1], &[0, 1]);
+    assert!(panics(|| sparse_ilu::copy_value(&mut factor, &matrix)));
+    assert_eq!(factor.row2val, [[100.0], [100.0]]);
+    assert_eq!(factor.idx2val, [[1.0]]);
+}
+
+#[test]
+fn copy_value_takes_a_factor_with_unsorted_rows_and_wrong_splits() {
+    // 01 refuses it by 11.
+    let matrix = matrix_of(&[0, 2, 2, 2], &[1, 2]);
+    let mut factor = factor_with(&[0, 2, 2, 2], &[2, 1], &[9, 9, 9]);
+    sparse_ilu::copy_value(&mut factor, &matrix);
+    assert_eq!(factor.idx2val, [[2.0], [1.0]]);
+}
+
+#[test]
+fn decompose_takes_a_wrong_split() {
+    // 01 refuses it by 11. Row 0's entry stands above the diagonal and is not multiplied by the pivot.
+    let mut factor = factor_with(&[0, 1, 1], &[1], &[1, 1]);
+    assert!(sparse_ilu::decompose::<f64, 1, 1>(&mut factor).is_ok());
+    assert_eq!(factor.idx2val, [[8.0]]);
+    let mut right = factor_with(&[0, 1, 1], &[1], &[0, 1]);
+    assert!(sparse_ilu::decompose::<f64, 1, 1>(&mut right).is_ok());
+    assert_eq!(right.idx2val, [[4.0]]);
+}
+
+#[test]
+fn decompose_does_not_say_where_it_stops() {
+    // 01 names the row by 9.
+    let mut factor = factor_with(&[0, 0, 0], &[], &[0, 0]);
+    factor.row2val = vec![[0.0], [0.0]];
+    let at_row_0 = sparse_ilu::decompose::<f64, 1, 1>(&mut factor);
+    factor.row2val = vec![[2.0], [0.0]];
+    let at_row_1 = sparse_ilu::decompose::<f64, 1, 1>(&mut factor);
+    assert!(at_row_0.is_err() && at_row_0 == at_row_1);
+    assert_eq!(factor.row2val, [[0.5], [0.0]]);
+}

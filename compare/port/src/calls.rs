@@ -186,6 +186,18 @@ wrap! {
     blkcsr => pierbramble_blkcsr(take dim: u32, read rows: u8, read cols: u8, read element: u8, read offsets: u8, read columns: u8, write values: u8) -> Outcome
 }
 wrap! {
+    /// A's values in a factor, +0 where A has no entry.
+    copy_value => pierbramble_copy_value(take dim: u32, read starts: u8, read entries: u8, read a_diagonal: u8, read a_values: u8, read offsets: u8, read columns: u8, read splits: u8, write diagonal: u8, write values: u8) -> Outcome
+}
+wrap! {
+    /// A factor's values decomposed in place, or 9 with the row of the pivot that cannot be inverted.
+    decompose => pierbramble_decompose(take dim: u32, read offsets: u8, read columns: u8, read splits: u8, write diagonal: u8, write values: u8) -> Outcome
+}
+wrap! {
+    /// A vector solved in place with a decomposed factor: forward, then backward.
+    solve_preconditioning_vec => pierbramble_solve_preconditioning_vec(take dim: u32, write vec: u8, read offsets: u8, read columns: u8, read splits: u8, read diagonal: u8, read values: u8) -> Outcome
+}
+wrap! {
     /// `set_zero` on values, for measuring. So are the next ones, and they answer as the calls on bytes.
     timed_set_zero => pierbramble_timed_set_zero(take dim: u32, take n: u32, write p: f64) -> u32
 }
@@ -246,4 +258,29 @@ wrap! {
 wrap! {
     /// `set_fixed_bc` on values.
     timed_set_fixed_bc => pierbramble_timed_set_fixed_bc(take dim: u32, take val_dia: f64, read flags: i32, write diagonal: f64, write values: f64, read offsets: u32, read columns: u32) -> u32
+}
+wrap! {
+    /// `copy_value` on values.
+    timed_copy_value => pierbramble_timed_copy_value(take dim: u32, read starts: u32, read entries: u32, read a_diagonal: f64, read a_values: f64, read offsets: u32, read columns: u32, read splits: u32, write diagonal: f64, write values: f64) -> u32
+}
+wrap! {
+    /// `decompose` on values; it says the row of 9 too.
+    timed_decompose => pierbramble_timed_decompose(take dim: u32, read offsets: u32, read columns: u32, read splits: u32, write diagonal: f64, write values: f64) -> Outcome
+}
+wrap! {
+    /// `solve_preconditioning_vec` on values.
+    timed_solve_preconditioning_vec => pierbramble_timed_solve_preconditioning_vec(take dim: u32, write vec: f64, read offsets: u32, read columns: u32, read splits: u32, read diagonal: f64, read values: f64) -> u32
+}
+wrap! {
+    /// `copy_value` without any check. Only to be called with what `timed_copy_value` answers with 0. With
+    /// anything else it may go beyond the slices. So it is with the next two.
+    unchecked_copy_value => pierbramble_unchecked_copy_value(take dim: u32, read starts: u32, read entries: u32, read a_diagonal: f64, read a_values: f64, read offsets: u32, read columns: u32, write diagonal: f64, write values: f64)
+}
+wrap! {
+    /// `decompose` without any check. It answers the row of the pivot that it stops at, or the number of rows.
+    unchecked_decompose => pierbramble_unchecked_decompose(take dim: u32, read offsets: u32, read columns: u32, read splits: u32, write diagonal: f64, write values: f64) -> usize
+}
+wrap! {
+    /// `solve_preconditioning_vec` without any check.
+    unchecked_solve_preconditioning_vec => pierbramble_unchecked_solve_preconditioning_vec(take dim: u32, write vec: f64, read offsets: u32, read columns: u32, read splits: u32, read diagonal: f64, read values: f64)
 }

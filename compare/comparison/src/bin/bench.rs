@@ -10,6 +10,7 @@ use std::time::{Duration, Instant, SystemTime, UNIX_EPOCH};
 use comparison::random::Random;
 use comparison::stack;
 use comparison::timed::blocks::BLOCKS;
+use comparison::timed::factors::FACTORS;
 use comparison::timed::fills::FILLS;
 use comparison::timed::plates::PLATES;
 use comparison::timed::{ordinary, Inputs, Side, Timed};
@@ -22,7 +23,7 @@ struct Section {
     times: &'static str,
 }
 
-const SECTIONS: [Section; 3] = [
+const SECTIONS: [Section; 4] = [
     Section {
         calls: BLOCKS,
         columns: "by count of blocks (values for the root)",
@@ -36,6 +37,11 @@ const SECTIONS: [Section; 3] = [
     Section {
         calls: FILLS,
         columns: "by rows of a pattern, which is that of the plate where no other is named",
+        times: "Nanoseconds for a row",
+    },
+    Section {
+        calls: FACTORS,
+        columns: "by rows of a plate whose factor is filled to level k (at k = 2 the last is of 3,600 rows, so that 14 is linear)",
         times: "Nanoseconds for a row",
     },
 ];
@@ -77,19 +83,40 @@ impl Buffers {
         self.apart..self.apart + self.length
     }
 
+    fn call(&mut self, side: Side) {
+        let at = self.place();
+        side(
+            self.dim,
+            black_box(&mut self.inputs),
+            black_box(&mut self.out[at]),
+        );
+        black_box(&mut self.out);
+    }
+
     /// Seconds of one call, over `repeats` calls.
     fn seconds(&mut self, side: Side, repeats: usize) -> f64 {
+        if self.inputs.factor.is_some() {
+            return self.seconds_by_itself(side, repeats);
+        }
         let start = Instant::now();
         for _ in 0..repeats {
-            let at = self.place();
-            side(
-                self.dim,
-                black_box(&mut self.inputs),
-                black_box(&mut self.out[at]),
-            );
-            black_box(&mut self.out);
+            self.call(side);
         }
         start.elapsed().as_secs_f64() / repeats as f64
+    }
+
+    /// The same, with each call measured by itself, since what it changes is put back before it.
+    fn seconds_by_itself(&mut self, side: Side, repeats: usize) -> f64 {
+        let mut spent = Duration::ZERO;
+        for _ in 0..repeats {
+            if let Some(factor) = &mut self.inputs.factor {
+                factor.restore();
+            }
+            let start = Instant::now();
+            self.call(side);
+            spent += start.elapsed();
+        }
+        spent.as_secs_f64() / repeats as f64
     }
 
     /// The words that a side writes, on buffers as they are; they are then as before.

@@ -361,6 +361,7 @@ impl Made {
             rows: self.pattern.n(),
             entries: self.pattern.entries(),
             nodes: self.rows.len(),
+            ..Counts::default()
         };
         let indexes = [
             ("nodes", &self.rows[..]),

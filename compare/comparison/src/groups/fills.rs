@@ -231,7 +231,10 @@ fn written(factor: &Factor, reading: &Reading) -> Worked {
         written.push(vec![0; reading.room()]);
         written.push(vec![0; factor.num_blk]);
     }
-    Worked { written, sum: None }
+    Worked {
+        written,
+        ..Worked::default()
+    }
 }
 
 /// Random patterns: of any kind, and sparse ones with long walks, at so many levels each.
@@ -389,7 +392,7 @@ fn given(call: &SliceCall, pattern: &Sparse, k: u32, room: usize, random: &mut R
         dim: 1,
         rows: pattern.n(),
         entries: room,
-        nodes: 0,
+        ..Counts::default()
     };
     let indexes = [
         ("starts", &pattern.offsets[..]),

@@ -291,7 +291,7 @@ fn given(call: &SliceCall, dim: u32, pattern: &Sparse, fill: Fill, random: &mut 
         dim,
         rows: pattern.n(),
         entries: pattern.entries(),
-        nodes: 0,
+        ..Counts::default()
     };
     let indexes = [
         ("offsets", &pattern.offsets[..]),

@@ -4,6 +4,7 @@
 pub mod blocks;
 pub mod checks;
 pub mod elements;
+pub mod factors;
 pub mod fills;
 pub mod inverse;
 pub mod matrix;
@@ -41,4 +42,5 @@ pub const ALL: &[Group] = &[
     matrix::GROUP,
     elements::GROUP,
     fills::GROUP,
+    factors::GROUP,
 ];

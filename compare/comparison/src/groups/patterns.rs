@@ -138,7 +138,7 @@ fn sorted(reading: &Reading) -> Worked {
     let words = columns.into_iter().map(u64::from);
     Worked {
         written: vec![words.collect()],
-        sum: None,
+        ..Worked::default()
     }
 }
 

@@ -124,7 +124,7 @@ impl SliceCall {
         let asked = number == rules::DONE || (self.panics)(&reading, number);
         let worked = asked.then(|| answer_of_original(|| (self.oracle)(&reading)));
         match worked.flatten() {
-            Some(worked) if number == rules::DONE => Some(self.done(worked)),
+            Some(worked) if number == rules::DONE => Some(self.worked(worked)),
             None if number != rules::DONE => Some(self.refused(number, given)),
             worked => {
                 let lengths: Vec<usize> = given.slices.iter().map(Vec::len).collect();
@@ -158,15 +158,17 @@ impl SliceCall {
         }
     }
 
-    fn done(&self, worked: Worked) -> Expected {
+    /// Done, or stopped at a row by 9.
+    fn worked(&self, worked: Worked) -> Expected {
+        let (number, row) = worked.answer();
         let mut written = worked.written.into_iter();
         let after = self.slices().map(|slice| match slice.access {
             Access::Read => After::Unchanged,
             _ => slice.after(written.next().expect("words of every written slice")),
         });
         Expected {
-            number: rules::DONE,
-            row: 0,
+            number,
+            row,
             after: after.collect(),
             sum: worked.sum.map(words::word_of),
         }

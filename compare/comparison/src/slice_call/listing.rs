@@ -28,10 +28,11 @@ impl SliceCall {
     /// A line of the fixed list: what the rules and the original say of whole words.
     pub fn line(&self, given: &Given) -> Line {
         let reading = self.reading(given);
-        let number = (self.refusal)(&reading);
+        let (mut number, mut row) = ((self.refusal)(&reading), 0);
         let mut outputs: Vec<u64> = Vec::new();
         if number == rules::DONE {
             let worked = (self.oracle)(&reading);
+            (number, row) = worked.answer();
             outputs.extend(worked.written.into_iter().flatten());
             outputs.extend(worked.sum.map(words::word_of));
         } else {
@@ -46,7 +47,7 @@ impl SliceCall {
             dim: given.dim,
             inputs: self.line_inputs(given),
             number,
-            row: 0,
+            row,
             outputs,
         }
     }

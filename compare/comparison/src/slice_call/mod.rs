@@ -130,6 +130,8 @@ pub struct Worked {
     /// The words of each slice that the call writes, in order.
     pub written: Vec<Vec<u64>>,
     pub sum: Option<f64>,
+    /// The row at which it stopped, since its pivot cannot be inverted; the words are those of that moment.
+    pub singular: Option<u32>,
 }
 
 impl Worked {
@@ -138,14 +140,22 @@ impl Worked {
         let words = |slice: &&[[f64; L]]| words::words_of(slice.as_flattened());
         Worked {
             written: slices.iter().map(words).collect(),
-            sum: None,
+            ..Worked::default()
         }
     }
 
     pub fn sum(sum: f64) -> Worked {
         Worked {
-            written: Vec::new(),
             sum: Some(sum),
+            ..Worked::default()
+        }
+    }
+
+    /// The number that the call answers, and its row.
+    fn answer(&self) -> (u32, u32) {
+        match self.singular {
+            Some(row) => (rules::SINGULAR, row),
+            None => (rules::DONE, 0),
         }
     }
 }
@@ -227,6 +237,12 @@ impl SliceCall {
         } else {
             &[1]
         }
+    }
+
+    /// Gives a slice of values these words.
+    pub fn put(&self, given: &mut Given, name: &str, words: &[u64]) {
+        let at = self.slices().position(|slice| slice.name == name);
+        given.slices[at.expect("a slice of this call")] = words::bytes_of(words);
     }
 
     /// What has right lengths for these counts: values and flags, these indexes, any bits where the call

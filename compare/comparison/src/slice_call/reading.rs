@@ -86,7 +86,7 @@ impl Reading<'_> {
         }
     }
 
-    /// n is given, or one less than the offsets of the pattern that is read: `starts` if another one is written.
+    /// n is given, or one less than the offsets of the pattern that is read: `starts` if there is another one too.
     fn rows(&self) -> usize {
         if self.has_number("n") {
             return self.count("n") as usize;
@@ -110,6 +110,7 @@ impl Reading<'_> {
             dim: self.dim(),
             rows: self.rows(),
             entries: self.length("columns"),
+            entries_of_a: self.length("entries"),
             nodes: self.length("nodes") + self.length("rows"),
         }
     }

@@ -1,10 +1,13 @@
 // What is measured: the port's timed calls, and the same work by the original on the same buffers.
-// `blocks` has calls on many blocks, `plates` on vectors and on the matrix of a plate, `fills` those of a factor's pattern.
+// `blocks` has calls on many blocks, `plates` on vectors and on the matrix of a plate, `fills` those of a factor's pattern,
+// `factors` those of its values.
 
 pub mod blocks;
+pub mod factors;
 pub mod fills;
 pub mod plates;
 
+use self::factors::Sides;
 use self::fills::Fill;
 use crate::random::Random;
 use crate::values::{self, Kind};
@@ -22,6 +25,8 @@ pub struct Inputs {
     pub buffer: Vec<usize>,
     /// What a fill reads and writes, on either side.
     pub fill: Option<Fill>,
+    /// What a call on a factor reads and writes, on either side. It is put back before each call.
+    pub factor: Option<Box<dyn Sides>>,
 }
 
 impl Inputs {
