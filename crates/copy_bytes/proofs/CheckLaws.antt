@@ -1,6 +1,6 @@
 -- The checks of the copy by the lengths of its bytes: each way out of them, what the rooms hold when none refuses, and the ends of the call.
 -- Assumes nothing.
-use mathlib.Core.Path.{_≡_, refl, sym, _∙_}
+use mathlib.Core.Path.{_≡_, refl, _∙_}
 use mathlib.Core.List.{List, [], _∷_, _++_}
 use mathlib.Core.Bool.{Bool, true, false, not, _||_}
 use Prim.Native.Nat.{ℕ, _-_, _/_, _≤_}

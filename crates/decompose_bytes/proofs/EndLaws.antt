@@ -10,12 +10,12 @@ use lib.ListN.{length}
 use lib.Ieee.{Float, Format, binary64}
 use Rattle.answers.specs.declared.Answer.{Answer}
 use Rattle.answers.specs.Numbers.{numberOf, rowOf}
-use Rattle.answers.specs.Checks.{Check, _when_, firstOf}
+use Rattle.answers.specs.Checks.{_when_, firstOf}
 use Rattle.answers.specs.Limits.{outsideOf}
 use Rattle.answers.proofs.EndLaws.{none-of-zero, unnamed-number, refused-earlier}
 use Rattle.patterns.specs.Pattern.{validPattern, validSplits}
 use Rattle.matrix.proofs.PatternEnds.{pair-of}
-use Rattle.factors.specs.Factor.{FactorPattern, FactorValues, decompose}
+use Rattle.factors.specs.Factor.{FactorValues, decompose}
 use Rattle.reducing.specs.Lent.{patternOf, factorOf}
 use Rattle.decompose.specs.Promise.{hasStopped}
 use Rattle.numbered.specs.Checks.{dimChecks}

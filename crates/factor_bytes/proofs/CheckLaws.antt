@@ -1,18 +1,17 @@
 -- The checks of a factor by the lengths of its bytes: each way out of them, and what the rooms hold when none refuses.
 -- Assumes nothing.
-use mathlib.Core.Path.{_≡_, refl, sym, _∙_}
+use mathlib.Core.Path.{_≡_, refl}
 use mathlib.Core.List.{[], _∷_, _++_}
 use mathlib.Core.Bool.{Bool, true, false, not, _||_}
 use Prim.Native.Nat.{ℕ, _-_, _*_, _/_, _≤_}
 use native.Mathlib.Omega.{arith}
 use lib.Dec.{eqb}
 use borrow.Author.Tests.{eqb-true, not-false}
-use Rattle.base.proofs.All.{or-left, or-right}
 use Rattle.answers.specs.Checks.{_when_, firstOf}
 use Rattle.patterns.specs.Checks.{tooLarge}
 use Rattle.patterns.proofs.SizeLaws.{rows-least, rows-most}
 use Rattle.matrix.specs.Checks.{wrongValues, matrixLengths}
-use Rattle.pattern_bytes.specs.Checks.{broken, byteChecks, Held}
+use Rattle.pattern_bytes.specs.Checks.{broken, byteChecks}
 use Rattle.pattern_bytes.proofs.RoomLaws.{whole-indexes}
 use Rattle.matrix_bytes.specs.Checks.{misshapen}
 use Rattle.matrix_bytes.specs.Rooms.{isMany}

@@ -13,7 +13,7 @@ use Rattle.answers.specs.declared.Refusal.{Refusal}
 use Rattle.answers.specs.declared.Refusal.the-variants.{Size, Shape}
 use Rattle.answers.specs.declared.Answer.{Answer}
 use Rattle.answers.specs.declared.Answer.the-variants.{Refused}
-use Rattle.answers.specs.Numbers.{numberOf, refusalNumber, valuesOf, rowOf}
+use Rattle.answers.specs.Numbers.{numberOf, refusalNumber, rowOf}
 use Rattle.answers.specs.Checks.{Check, _when_, firstOf, noneHolds}
 use Rattle.answers.specs.Limits.{outsideOf}
 use Rattle.answers.proofs.SameAnswer.{same-number}

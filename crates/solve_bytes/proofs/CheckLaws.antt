@@ -1,15 +1,15 @@
 -- The checks of the solve by the lengths of its bytes: each way out of them, what the rooms hold when none refuses, and the ends of the call.
 -- Assumes nothing.
-use mathlib.Core.Path.{_≡_, refl, ap, sym, _∙_}
+use mathlib.Core.Path.{_≡_, refl}
 use mathlib.Core.List.{List, [], _∷_, _++_}
 use mathlib.Core.Bool.{Bool, true, false, not, _||_}
-use Prim.Native.Nat.{ℕ, _-_, _*_, _/_, _≤_}
+use Prim.Native.Nat.{ℕ, _-_, _*_, _/_}
 use native.Mathlib.Omega.{arith}
 use lib.ListN.{length}
 use borrow.Author.Tests.{eqb-true, not-false}
 use Rattle.answers.specs.declared.Answer.{Answer}
 use Rattle.answers.specs.Numbers.{numberOf}
-use Rattle.answers.specs.Checks.{_when_, firstOf, noneHolds}
+use Rattle.answers.specs.Checks.{_when_, firstOf}
 use Rattle.answers.specs.Limits.{wrongLength}
 use Rattle.answers.specs.Promise.{Ends}
 use Rattle.answers.proofs.EndLaws.{none-of-zero, ends-earlier, ends-later}
@@ -23,7 +23,7 @@ use Rattle.pattern_bytes.specs.Checks.{broken, byteChecks, Held}
 use Rattle.pattern_bytes.proofs.RoomLaws.{whole-values}
 use Rattle.matrix_bytes.specs.Rooms.{isMany}
 use Rattle.matrix_bytes.proofs.EndedLaws.{none-left}
-use Rattle.factor_bytes.specs.Checks.{misshapenFactor, factorLengths}
+use Rattle.factor_bytes.specs.Checks.{factorLengths}
 use Rattle.factor_bytes.specs.Rooms.{HeldFactor}
 use Rattle.factor_bytes.proofs.CheckLaws.{not-torn, factor-in-full, factor-in-small, words-in-full, words-in-small}
 use Rattle.solve_bytes.specs.Checks.{misshapenSolve}
