@@ -1,6 +1,5 @@
 // The calls on a factor, copy_value, decompose and solve_preconditioning_vec (0, 1, 2), at their limits: a function runs one case, by its number.
 // Nothing is printed here, so that nothing is assumed; the program `factor_cases` goes through the numbers.
-
 use factor_shapes::column_count;
 use factor_shapes::columns_of;
 use factor_shapes::offset_count;
@@ -250,7 +249,7 @@ fn decompose_at(
     }
 }
 
-// Slices: splits, diagonal, values. The values rise by one, so that some pivot is singular at N = 2 and 3: 9 then says that all checks passed.
+// Slices: splits, diagonal, values. The values rise by one, so that a pivot may be singular at N = 2 and 3: 9 then says that all checks passed.
 fn try_decompose(dim: usize, case: usize) -> Seen {
     let shape = factor_shape(case);
     let a = at_most(length_in(case, 0, row_count(shape)), 4099);
