@@ -16,7 +16,7 @@ use Rattle.places.specs.Places.{Marked}
 use Rattle.lent.specs.Steps.{Within}
 use Rattle.matrix.proofs.FitLaws.{row-is}
 use Rattle.factor_check.specs.Fits.{FactorFits}
-use Rattle.factor_check.proofs.FitLaws.{columns-few, diagonal-within, row-ends, row-long, can-be-marked}
+use Rattle.factor_check.proofs.FitLaws.{columns-few, diagonal-within, pivot-below, row-ends, row-long, split-between, can-be-marked}
 use Rattle.reducing.specs.Fits.{HandedOn, TakeFits}
 
 module _ {n : ℕ} {o cs ss : List ℕ} {diagonal values : ℕ} (fit : FactorFits n o cs ss diagonal values) (i : ℕ) (h : i < rowsOf o) where
@@ -36,6 +36,19 @@ module _ {n : ℕ} {o cs ss : List ℕ} {diagonal values : ℕ} (fit : FactorFit
         of-row = rw (handed .row-is, row-long fit i h) (row-ends fit i h .1);
         of-values = omega (arith, fit .matrix .of-values);
       }
+
+-- the row that entry e leads to: it has a split and an end, and its upper entries lie between them
+module _ {n : ℕ} {o cs ss : List ℕ} {diagonal values : ℕ} (fit : FactorFits n o cs ss diagonal values) (e : ℕ) (h : e < length cs) where
+  pub has-split : getD cs e 0 < length ss
+  has-split = omega (arith, pivot-below fit e h, fit .of-splits)
+
+  pub has-end : getD cs e 0 + 1 < length o
+  has-end = omega (arith, pivot-below fit e h)
+
+  pub upper-ends : (first end : ℕ) → first ≡ getD ss (getD cs e 0) 0 → end ≡ getD o (getD cs e 0 + 1) 0 → (first ≤ end) × (end ≤ length cs)
+  upper-ends first end is-first is-end =
+      let below = pivot-below fit e h in
+      (omega (arith, split-between fit (getD cs e 0) below .1), omega (arith, row-ends fit (getD cs e 0) below .1))
 
 module _ {n : ℕ} {marks row : List ℕ} {from : ℕ} {cs : List ℕ} {i diagonal values : ℕ} (fit : TakeFits n marks row from cs i diagonal values) where
   pub entry-within : (e : ℕ) → e < length cs → Within (n * n) e values

@@ -9,7 +9,8 @@ use borrow.Author.Tests.{eq-eqb, ne-eqb}
 use Rattle.blocks.specs.Block.{product, subtracted}
 use Rattle.blocks.specs.Lent.{blockAt, putAt}
 use Rattle.rows.specs.Lookup.{noPlace, placeIn}
-use Rattle.factors.specs.Factor.{lessBlock, takeFrom, takeProduct}
+use Rattle.base.specs.Iterate.{iterate}
+use Rattle.factors.specs.Factor.{FactorValues, lessBlock, takeFrom, takeProduct, takePivot}
 use Rattle.reducing.specs.Lent.{patternOf, factorOf}
 use Rattle.reducing.specs.Fits.{HandedOn}
 
@@ -20,6 +21,13 @@ module _ (f : Format) (n : ℕ) where
   joined-less w a b out x y p z ex ey ep ez =
       ez ∙ ap (λ (l : List Float). putAt (n * n * w) l out)
       (ep ∙ ap (λ (l : List Float). subtracted f (n * n) l y) ex ∙ ap (subtracted f (n * n) (blockAt n out w)) ey)
+
+-- The upper entries of the row that entry e leads to are those from its split to its end.
+module _ (f : Format) (n : ℕ) (o cs ss : List ℕ) (i e : ℕ) where
+  pub pivot-taken : (first end : ℕ) → first ≡ getD ss (getD cs e 0) 0 → end ≡ getD o (getD cs e 0 + 1) 0 → (old new : FactorValues)
+      → new ≡ iterate (takeProduct f n (patternOf o cs ss) i e) first end old → new ≡ takePivot f n (patternOf o cs ss) i e old
+  unfolding takePivot
+  pivot-taken first end is-first is-end old new taken = rw (is-first, is-end) at taken
 
 -- The product of entries e and g, in its three ways: it is taken from the diagonal, from the entry that is found, or from nothing.
 module _ (f : Format) (n : ℕ) (o cs ss : List ℕ) (i : ℕ) (row : List ℕ) (from : ℕ) (on : HandedOn o cs i row from) (e g : ℕ) (diagonal values : List Float) where

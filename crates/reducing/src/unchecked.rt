@@ -1,5 +1,5 @@
 // Row i of a factor less the products of its lower entries and the entries that they lead to, with N as the number `dim`: a function for each of the nested loops.
-// N is chosen once for a lower entry, since a choice at each block is slower. These functions ask that the factor is valid and that the lengths fit it, so that no user calls them.
+// N is chosen once for a row, since a choice at each lower entry or block is slower. These functions ask that the factor is valid and that the lengths fit it, so that no user calls them.
 use answers::Index;
 use blocks::unchecked::block_1;
 use blocks::unchecked::block_2;
@@ -10,7 +10,7 @@ use places::unchecked::place_of;
 ghost use mathlib.Core.Path.{_≡_};
 ghost use mathlib.Core.List.{List};
 ghost use Prim.Native.Nat.{ℕ, _+_, _*_, _≤_, _<_};
-ghost use lib.ListN.{length};
+ghost use lib.ListN.{length, getD};
 ghost use lib.Ieee.{binary64};
 ghost use Rattle.base.specs.Iterate.{iterate};
 ghost use Rattle.blocks.specs.Block.{product};
@@ -204,11 +204,27 @@ fn take_pivot_3(
     }
 }
 
-// The same with N as a number.
-fn take_pivot(
+// The first upper entry of the row that entry e leads to, and the end of that row.
+fn upper_first(columns: &[u32], splits: &[u32], e: usize) -> usize
+    requires { ⌜ (e < length (now columns)) × (getD (now columns) e 0 < length (now splits)) ⌝ }
+    ensures { λ r. ⌜ r ≡ getD (now (splits .entry)) (getD (now (columns .entry)) e 0) 0 ⌝ }
+{
+    let p = columns[e] as usize;
+    splits[p] as usize
+}
+
+fn upper_end(columns: &[u32], offsets: &[u32], e: usize) -> usize
+    requires { ⌜ (e < length (now columns)) × (getD (now columns) e 0 + 1 < length (now offsets)) ⌝ }
+    ensures { λ r. ⌜ r ≡ getD (now (offsets .entry)) (getD (now (columns .entry)) e 0 + 1) 0 ⌝ }
+{
+    let p = columns[e] as usize;
+    offsets[p + 1] as usize
+}
+
+// The lower entries of row i in order, from the first to before the end, where the row is marked.
+fn take_lower_1(
     diagonal: &mut [f64],
     values: &mut [f64],
-    dim: usize,
     marks: &[u8; 4096],
     row: &[u32],
     from: usize,
@@ -216,16 +232,16 @@ fn take_pivot(
     columns: &[u32],
     splits: &[u32],
     i: usize,
-    e: usize,
+    end: usize,
 )
-    requires { ⌜ (FactorFits dim (now offsets) (now columns) (now splits) (length (now diagonal)) (length (now values))) × (TakeFits dim (now marks) (now row) from (now columns) i (length (now diagonal)) (length (now values))) × (HandedOn (now offsets) (now columns) i (now row) from) × (e < length (now columns)) ⌝ }
-    ensures { λ _. ⌜ factorOf (now (diagonal .exit)) (now (values .exit)) ≡ takePivot binary64 dim (patternOf (now (offsets .entry)) (now (columns .entry)) (now (splits .entry))) i e (factorOf (now (diagonal .entry)) (now (values .entry))) ⌝ }
+    requires { ⌜ (FactorFits 1 (now offsets) (now columns) (now splits) (length (now diagonal)) (length (now values))) × (TakeFits 1 (now marks) (now row) from (now columns) i (length (now diagonal)) (length (now values))) × (HandedOn (now offsets) (now columns) i (now row) from) × (from ≤ end) × (end ≤ length (now columns)) ⌝ }
+    ensures { λ _. ⌜ factorOf (now (diagonal .exit)) (now (values .exit)) ≡ iterate (takePivot binary64 1 (patternOf (now (offsets .entry)) (now (columns .entry)) (now (splits .entry))) i) from end (factorOf (now (diagonal .entry)) (now (values .entry))) ⌝ }
 {
-    let p = columns[e] as usize;
-    let first = splits[p] as usize;
-    let end = offsets[p + 1] as usize;
-    match dim {
-        1 => take_pivot_1(
+    let mut e = from;
+    while e < end {
+        let first = upper_first(columns, splits, e);
+        let last = upper_end(columns, offsets, e);
+        take_pivot_1(
             diagonal,
             values,
             marks,
@@ -235,36 +251,83 @@ fn take_pivot(
             i,
             e,
             first,
-            end,
-        ),
-        2 => take_pivot_2(
-            diagonal,
-            values,
-            marks,
-            row,
-            from,
-            columns,
-            i,
-            e,
-            first,
-            end,
-        ),
-        _ => take_pivot_3(
-            diagonal,
-            values,
-            marks,
-            row,
-            from,
-            columns,
-            i,
-            e,
-            first,
-            end,
-        ),
+            last,
+        );
+        e += 1;
     }
 }
 
-// The lower entries of row i in order, where the row is marked.
+fn take_lower_2(
+    diagonal: &mut [f64],
+    values: &mut [f64],
+    marks: &[u8; 4096],
+    row: &[u32],
+    from: usize,
+    offsets: &[u32],
+    columns: &[u32],
+    splits: &[u32],
+    i: usize,
+    end: usize,
+)
+    requires { ⌜ (FactorFits 2 (now offsets) (now columns) (now splits) (length (now diagonal)) (length (now values))) × (TakeFits 2 (now marks) (now row) from (now columns) i (length (now diagonal)) (length (now values))) × (HandedOn (now offsets) (now columns) i (now row) from) × (from ≤ end) × (end ≤ length (now columns)) ⌝ }
+    ensures { λ _. ⌜ factorOf (now (diagonal .exit)) (now (values .exit)) ≡ iterate (takePivot binary64 2 (patternOf (now (offsets .entry)) (now (columns .entry)) (now (splits .entry))) i) from end (factorOf (now (diagonal .entry)) (now (values .entry))) ⌝ }
+{
+    let mut e = from;
+    while e < end {
+        let first = upper_first(columns, splits, e);
+        let last = upper_end(columns, offsets, e);
+        take_pivot_2(
+            diagonal,
+            values,
+            marks,
+            row,
+            from,
+            columns,
+            i,
+            e,
+            first,
+            last,
+        );
+        e += 1;
+    }
+}
+
+fn take_lower_3(
+    diagonal: &mut [f64],
+    values: &mut [f64],
+    marks: &[u8; 4096],
+    row: &[u32],
+    from: usize,
+    offsets: &[u32],
+    columns: &[u32],
+    splits: &[u32],
+    i: usize,
+    end: usize,
+)
+    requires { ⌜ (FactorFits 3 (now offsets) (now columns) (now splits) (length (now diagonal)) (length (now values))) × (TakeFits 3 (now marks) (now row) from (now columns) i (length (now diagonal)) (length (now values))) × (HandedOn (now offsets) (now columns) i (now row) from) × (from ≤ end) × (end ≤ length (now columns)) ⌝ }
+    ensures { λ _. ⌜ factorOf (now (diagonal .exit)) (now (values .exit)) ≡ iterate (takePivot binary64 3 (patternOf (now (offsets .entry)) (now (columns .entry)) (now (splits .entry))) i) from end (factorOf (now (diagonal .entry)) (now (values .entry))) ⌝ }
+{
+    let mut e = from;
+    while e < end {
+        let first = upper_first(columns, splits, e);
+        let last = upper_end(columns, offsets, e);
+        take_pivot_3(
+            diagonal,
+            values,
+            marks,
+            row,
+            from,
+            columns,
+            i,
+            e,
+            first,
+            last,
+        );
+        e += 1;
+    }
+}
+
+// The same with N as a number, up to the row's split.
 fn take_lower(
     diagonal: &mut [f64],
     values: &mut [f64],
@@ -281,12 +344,10 @@ fn take_lower(
     ensures { λ _. ⌜ factorOf (now (diagonal .exit)) (now (values .exit)) ≡ reduceRow binary64 dim (patternOf (now (offsets .entry)) (now (columns .entry)) (now (splits .entry))) i (factorOf (now (diagonal .entry)) (now (values .entry))) ⌝ }
 {
     let end = splits[i] as usize;
-    let mut e = from;
-    while e < end {
-        take_pivot(
+    match dim {
+        1 => take_lower_1(
             diagonal,
             values,
-            dim,
             marks,
             row,
             from,
@@ -294,9 +355,32 @@ fn take_lower(
             columns,
             splits,
             i,
-            e,
-        );
-        e += 1;
+            end,
+        ),
+        2 => take_lower_2(
+            diagonal,
+            values,
+            marks,
+            row,
+            from,
+            offsets,
+            columns,
+            splits,
+            i,
+            end,
+        ),
+        _ => take_lower_3(
+            diagonal,
+            values,
+            marks,
+            row,
+            from,
+            offsets,
+            columns,
+            splits,
+            i,
+            end,
+        ),
     }
 }
 

@@ -1,69 +1,63 @@
--- `unchecked::take_lower` meets its promise: after the entries below e their pivots are taken.
+-- `unchecked::take_lower` meets its promise: each N goes to its own function, with the row's split.
 -- Assumes nothing.
-use mathlib.Core.Path.{_≡_, refl, sym, ap, _∙_}
-use Prim.Native.Nat.{ℕ, _-_, _≤_}
+use mathlib.Core.Path.{_≡_}
+use Prim.Native.Nat.{_≤_}
 use native.Mathlib.Omega.{arith}
 use lib.ListN.{length, getD}
-use lib.Ieee.{binary64}
 use borrow.Author.Needs.{needs}
-use Rattle.base.specs.Iterate.{iterate}
-use Rattle.base.proofs.Iterate.{iterate-none, iterate-more}
-use Rattle.factors.specs.Factor.{FactorValues, takePivot, reduceRow}
-use Rattle.reducing.specs.Lent.{patternOf, factorOf}
-use Rattle.factor_check.proofs.FitLaws.{row-ends, split-between}
+use Rattle.factors.specs.Factor.{reduceRow}
+use Rattle.factor_check.proofs.FitLaws.{split-ends}
 use Rattle.reducing.proofs.unchecked.take_lower.Statement.{statement}
 use Rattle.reducing.proofs.unchecked.take_lower.Tie as tie
 
-abbrev Inv-loop : tie.InvT-loop
-Inv-loop diagonal₀ values₀ dim marks row from offsets columns splits i end e₀ diagonal values e =
-    (length diagonal ≡ length diagonal₀) × (length values ≡ length values₀) × (end ≤ length columns) × (from ≤ e) × (e ≤ end)
-    × (factorOf diagonal values ≡ iterate (takePivot binary64 dim (patternOf offsets columns splits) i) from e (factorOf diagonal₀ values₀))
+-- the row's lower entries are within the columns
+ends : (c : tie.Start) → (c .args .from ≤ getD (c .args .splits .now) (c .args .i) 0) × (getD (c .args .splits .now) (c .args .i) 0 ≤ length (c .args .columns .now))
+ends c =
+    let all = split-ends (c .pre .0) (c .args .i) (c .pre .3) in
+    (omega (arith, all .0, c .pre .2 .from-is), omega (arith, all .1, all .2))
 
-abbrev μ-loop : tie.MeasureT-loop
-μ-loop diagonal₀ values₀ dim marks row from offsets columns splits i end e₀ diagonal values e = end - e
-
-mul-end : tie.Need-mul-end Inv-loop μ-loop
-mul-end c = omega (arith, c .before .before .before .before .before .before .pre .3, c .before .before .before .before .before .before .pre .0 .of-splits)
-
-shared-slice-read-end : tie.Need-shared-slice-read-end Inv-loop μ-loop
-shared-slice-read-end c = omega (arith, c .before .before .before .before .before .before .before .pre .3, c .before .before .before .before .before .before .before .pre .0 .of-splits)
-
-cast-end : tie.Need-cast-end Inv-loop μ-loop
+cast-end : tie.Need-cast-end
 cast-end c = record { fits = omega (arith, c .shared-slice-known5 .given (c .before .before .before .before .before .before .before .args .i)) }
 
-loop-holds : tie.Need-loop-holds Inv-loop μ-loop
-loop-holds c =
-    let s = c .before .before .before .before .before .before .before in
-    let split = split-between (s .pre .0) (s .args .i) (s .pre .3) in
-    (refl, refl, omega (arith, split .1, row-ends (s .pre .0) (s .args .i) (s .pre .3) .1), search needs, omega (arith, split .0, s .pre .2 .from-is), sym (iterate-none _ _ _ _ (search needs)))
+take-lower-1-requires : tie.Need-take-lower-1-requires
+take-lower-1-requires c κs =
+    let s = c .before .before .before .before .before .before .before .before .before .before in
+    let e : c .before .before .before .before .before .before .before .before .before .before .args .dim ≡ 1 = c .before .before .match .keys1 in
+    (rw e at (s .pre .0), rw e at (s .pre .1), s .pre .2, ends s .0, ends s .1)
 
-take-pivot-requires : tie.Need-take-pivot-requires Inv-loop μ-loop
-take-pivot-requires c κs =
-    let s = c .before .before .before .before .before .before .before .before .before .before .before in
-    let l = c .before .before .before .loop in
-    (rw (l .inv .0, l .inv .1) (s .pre .0), rw (l .inv .0, l .inv .1) (s .pre .1), s .pre .2, omega arith)
+take-lower-2-requires : tie.Need-take-lower-2-requires
+take-lower-2-requires c κs =
+    let s = c .before .before .before .before .before .before .before .before .before .before in
+    let e : c .before .before .before .before .before .before .before .before .before .before .args .dim ≡ 2 = c .before .before .match .keys2 in
+    (rw e at (s .pre .0), rw e at (s .pre .1), s .pre .2, ends s .0, ends s .1)
 
-loop-again : tie.Need-loop-again Inv-loop μ-loop
-loop-again c =
-    let a = c .before .before .before .before .before .before .before .before .before .before .before .before .before .before .before .before .args in
-    let l = c .before .before .before .before .before .before .before .before .loop in
-    let call = c .before .before .before .before .take-pivot in
-    let f : ℕ → FactorValues → FactorValues = takePivot binary64 (a .dim) (patternOf (a .offsets .now) (a .columns .now) (a .splits .now)) (a .i) in (
-      call .kept .0 ∙ l .inv .0,
-      call .kept .1 .0 ∙ l .inv .1,
-      l .inv .2,
-      omega arith,
-      omega arith,
-      call .ensures ∙ ap (f (l .e)) (l .inv .5) ∙ sym (iterate-more f _ (l .e) _ (l .inv .3)),
-    )
+take-lower-3-requires : tie.Need-take-lower-3-requires
+take-lower-3-requires c κs =
+    let s = c .before .before .before .before .before .before .before .before .before .before in
+    let e : c .before .before .before .before .before .before .before .before .before .before .args .dim ≡ 3 = omega arith in
+    (rw e at (s .pre .0), rw e at (s .pre .1), s .pre .2, ends s .0, ends s .1)
 
-returns : tie.Need-returns Inv-loop μ-loop
+returns : tie.Need-returns
 unfolding reduceRow
 returns c =
-    let s = c .before .before .before .before .before .before .before .before .before in
-    let e : c .before .loop .e ≡ getD (s .args .splits .now) (s .args .i) 0 = omega arith in
-    rw (e, s .pre .2 .from-is) at (c .before .loop .inv .5)
+    let s = c .before .before .before .before .before .before .before .before .before .before .before .before .before .before .before in
+    let e : c .before .before .before .before .before .before .before .before .before .before .before .before .before .before .before .args .dim ≡ 1 = c .before .before .before .before .before .before .before .match .keys1 in
+    rw (e, ← s .pre .2 .from-is) (c .before .before .before .before .take-lower-1 .ensures)
+
+returns-2 : tie.Need-returns-2
+unfolding reduceRow
+returns-2 c =
+    let s = c .before .before .before .before .before .before .before .before .before .before .before .before .before .before .before in
+    let e : c .before .before .before .before .before .before .before .before .before .before .before .before .before .before .before .args .dim ≡ 2 = c .before .before .before .before .before .before .before .match .keys2 in
+    rw (e, ← s .pre .2 .from-is) (c .before .before .before .before .take-lower-2 .ensures)
+
+returns-3 : tie.Need-returns-3
+unfolding reduceRow
+returns-3 c =
+    let s = c .before .before .before .before .before .before .before .before .before .before .before .before .before .before .before in
+    let e : c .before .before .before .before .before .before .before .before .before .before .before .before .before .before .before .args .dim ≡ 3 = omega arith in
+    rw (e, ← s .pre .2 .from-is) (c .before .before .before .before .take-lower-3 .ensures)
 
 pub take-lower-spec : {M : Type 1} → statement M
 take-lower-spec =
-    tie.close (tie.spec Inv-loop μ-loop mul-end shared-slice-read-end cast-end loop-holds take-pivot-requires (λ c. search needs) (λ c. search needs) loop-again (λ c. search needs) (λ c. search needs) returns)
+    tie.close (tie.spec (λ c. search needs) (λ c. search needs) cast-end take-lower-1-requires take-lower-2-requires take-lower-3-requires (λ c. search needs) (λ c. search needs) returns (λ c. search needs) (λ c. search needs) returns-2 (λ c. search needs) (λ c. search needs) returns-3)
