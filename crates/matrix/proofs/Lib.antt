@@ -2,6 +2,9 @@
 -- Assumes nothing.
 pub mod ScaleLaws
 pub mod ProductLaws
+pub mod OwnRound
+pub mod AlikeLaws
+pub mod BareLaws
 pub mod CheckLaws
 pub mod FitLaws
 pub mod PatternEnds

@@ -3,4 +3,5 @@
 pub mod Product
 pub mod Fits
 pub mod Steps
+pub mod Alike
 pub mod Checks

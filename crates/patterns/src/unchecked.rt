@@ -263,7 +263,7 @@ fn run_end(first: usize, rows: usize) -> usize
     }
 }
 
-// A run of rows: one array of marks serves all of them, since each has a stamp of its own.
+// A run of rows: one array of marks serves all of them, since each has a stamp of its own. The end of a row is kept as the start of the next.
 fn is_right_run(offsets: &[u32], columns: &[u32], first: usize, end: usize, refused: bool) -> bool
     requires { ⌜ (Ready (now offsets) (now columns)) × (first ≤ end) × (end ≤ first + 255) × (end ≤ rowsOf (now offsets)) × (rowsRight refused (now offsets) (now columns) first ≡ true) ⌝ }
     ensures { λ r. ⌜ r ≡ rowsRight refused (now (offsets .entry)) (now (columns .entry)) end ⌝ }
@@ -271,13 +271,14 @@ fn is_right_run(offsets: &[u32], columns: &[u32], first: usize, end: usize, refu
     let mut marks = [0u8; 4096];
     let mut stamp: u8 = 0;
     let mut i = first;
+    let mut from = wide(offsets[first]);
     while i < end {
-        let from = wide(offsets[i]);
         let to = wide(offsets[i + 1]);
         stamp += 1;
         if !is_right_row(&mut marks, &columns[from..to], i, stamp, refused) {
             return false;
         }
+        from = to;
         i += 1;
     }
     true
