@@ -7,37 +7,19 @@ use Prim.Native.Nat.{ℕ, zero, suc, _+_, _-_, _*_, _≤_, _<_}
 use native.Mathlib.Nat.{mul-le-mul-left, mul-add}
 use native.Mathlib.Omega.{arith}
 use lib.ListN.{length, getD, take, drop, length-append, length-take, length-drop, drop-of-length-le}
+use lib.Seq.{take-add, take-all}
 use lib.Ieee.{Float, Format}
-use borrow.Author.Tests.{lt-ltb}
-use Rattle.base.proofs.All.{all-at, all-of}
-use Rattle.patterns.specs.Pattern.{rowsOf, rowOf, allBelow, once, allOnce, validPattern, validEntries}
-use Rattle.patterns.proofs.Use.{pattern-entries, valid-offsets, columns-once, offset-last, row-ends, row-length, row-column-below}
+use Rattle.base.proofs.All.{all-at}
+use Rattle.patterns.specs.Pattern.{rowsOf, rowOf, validPattern}
+use Rattle.patterns.proofs.Use.{pattern-entries, valid-offsets, offset-last, row-ends, row-length}
 use Rattle.patterns.proofs.OffsetLaws.{offsets-first}
-use Rattle.factors.specs.Copy.{joined, copiedRow, copiedRows}
+use Rattle.factors.specs.Copy.{rowHasPlaces, allHavePlaces, joined, copiedRow, copiedRows}
 use Rattle.places.specs.Places.{Markable}
-use Rattle.copy_rows.specs.Steps.{CopyRow, Patterns, CopyFits}
+use Rattle.copy_check.specs.Steps.{Patterns}
+use Rattle.copy_check.proofs.LookLaws.{ends, long, low, markable, both-ends, looks}
+use Rattle.copy_rows.specs.Steps.{CopyRow, CopyFits}
 use Rattle.copy_rows.proofs.JoinLaws.{length-joined, joined-more, part-next}
-use Rattle.copy_rows.proofs.RowLaws.{copied-long}
-
--- a row of a valid pattern
-module _ (o cs : List ℕ) (valid : validPattern o cs ≡ true) (most : rowsOf o ≤ 4096) (i : ℕ) (h : i < rowsOf o) where
-  entries : validEntries o cs ≡ true
-  entries = pattern-entries o cs valid
-
-  pub ends : (getD o i 0 ≤ getD o (i + 1) 0) × (getD o (i + 1) 0 ≤ length cs)
-  ends = row-ends o cs (valid-offsets o cs entries) i h
-
-  pub long : getD o i 0 + length (rowOf o cs i) ≡ getD o (i + 1) 0
-  long = row-length o cs (valid-offsets o cs entries) i h
-
-  pub low : allBelow 4096 (rowOf o cs i) ≡ true
-  unfolding allBelow
-  low = all-of _ (length (rowOf o cs i)) (λ k l. lt-ltb (getD (rowOf o cs i) k 0) 4096 (omega (arith, row-column-below o cs entries i k h l)))
-
-  pub markable : length cs ≤ 65535 → Markable (rowOf o cs i)
-  unfolding allOnce
-  markable few =
-      record { few = omega (arith, ends, long); below = low; single = all-at (λ k. once (rowOf o cs k)) i (rowsOf o) (columns-once o cs entries) h }
+use Rattle.copy_rows.proofs.RowLaws.{copied-long, own-row}
 
 -- row i of both patterns
 module _ {starts entries o cs : List ℕ} (fit : Patterns starts entries o cs) (i : ℕ) (h : i < rowsOf starts) where
@@ -47,18 +29,7 @@ module _ {starts entries o cs : List ℕ} (fit : Patterns starts entries o cs) (
   most : rowsOf o ≤ 4096
   most = omega (arith, fit .same, fit .most)
 
-  -- the ends of its parts are in order and within their lists
-  pub both-ends : (getD starts i 0 ≤ getD starts (i + 1) 0) × (getD starts (i + 1) 0 ≤ length entries) × (getD o i 0 ≤ getD o (i + 1) 0) × (getD o (i + 1) 0 ≤ length cs)
-  both-ends =
-      let a = ends starts entries (fit .valid) (fit .most) i h in
-      let b = ends o cs (fit .valid-factor) most i there in
-      (a .0, a .1, b .0, b .1)
-
-  -- what its lookups ask
-  pub looks : (Markable (rowOf o cs i)) × (allBelow 4096 (rowOf starts entries i) ≡ true)
-  looks = (markable o cs (fit .valid-factor) most i there (fit .few-columns), low starts entries (fit .valid) (fit .most) i h)
-
-  -- and what its copy does
+  -- what its copy asks
   pub copies : (n values : ℕ) → values ≡ n * n * length entries
       → (out : ℕ) → out ≡ n * n * getD o (i + 1) 0 - n * n * getD o i 0 → CopyRow n (rowOf o cs i) (rowOf starts entries i) (getD starts i 0) values out
   copies n values is out long-is =
@@ -67,9 +38,18 @@ module _ {starts entries o cs : List ℕ} (fit : Patterns starts entries o cs) (
       record {
         marks = markable starts entries (fit .valid) (fit .most) i h (fit .few);
         low = low o cs (fit .valid-factor) most i there;
-        stored = rw (a, is) (mul-le-mul-left (n * n) (both-ends .1));
+        stored = rw (a, is) (mul-le-mul-left (n * n) (both-ends fit i h .1));
         room = long-is ∙ rw (← b) (omega (arith, mul-add (n * n) (getD o i 0) (length (rowOf o cs i))));
       }
+
+-- and that its entries have places
+pub placed-at : {n : ℕ} {starts entries o cs : List ℕ} {a-values values : ℕ} → CopyFits n starts entries o cs a-values values → (i : ℕ) → i < rowsOf starts
+    → (Markable (rowOf o cs i)) × (rowHasPlaces (rowOf o cs i) (rowOf starts entries i) ≡ true)
+unfolding allHavePlaces
+placed-at {starts = starts} {entries = entries} {o = o} {cs = cs} fit i h = (
+  looks (fit .patterns) i h .0,
+  all-at (λ k. rowHasPlaces (rowOf o cs k) (rowOf starts entries k)) i (rowsOf starts) (fit .placed) h,
+)
 
 -- the values of row i: the numbers that the code works out, and the length of the part that it hands on
 module _ {n : ℕ} {starts entries o cs : List ℕ} {a-values values : ℕ} (fit : CopyFits n starts entries o cs a-values values) where
@@ -131,3 +111,37 @@ module _ (f : Format) (n : ℕ) (starts entries : List ℕ) (values : List Float
   rows-all valid old out room so =
       let last : n * n * getD o (rowsOf o) 0 ≡ n * n * length cs = ap (λ (e : ℕ). n * n * e) (offset-last o cs (valid-offsets o cs (pattern-entries o cs valid))) in
       so ∙ ap (λ (l : List Float). joined (rowsOf o) copied ++ l) (drop-of-length-le old {i = n * n * getD o (rowsOf o) 0} (omega (arith, last, room))) ∙ append-nil (joined (rowsOf o) copied)
+
+-- The factor has A's pattern: the rows are then A's values, one after the other.
+module _ (f : Format) (n : ℕ) (o cs : List ℕ) (values : List Float) (valid : validPattern o cs ≡ true) (most : rowsOf o ≤ 4096) (few : length cs ≤ 65535) (stored : length values ≡ n * n * length cs) where
+  own-rows : (i : ℕ) → i ≤ rowsOf o → joined i (copied f n o cs values o cs) ≡ take (n * n * getD o i 0) values
+  unfolding joined
+  own-rows zero h =
+      let none : n * n * getD o 0 0 ≡ 0 = rw (offsets-first o cs (valid-offsets o cs (pattern-entries o cs valid))) (omega arith) in
+      rw none
+  own-rows (suc i) h =
+      let below : i < rowsOf o = omega arith in
+      let next : suc i ≡ i + 1 = omega arith in
+      let end = long o cs valid most i below in
+      let fits : n * n * (getD o i 0 + length (rowOf o cs i)) ≤ length values = rw (end, stored) (mul-le-mul-left (n * n) (ends o cs valid most i below .1)) in
+      let size : n * n * getD o i 0 + n * n * length (rowOf o cs i) ≡ n * n * getD o (suc i) 0 =
+      sym (mul-add (n * n) (getD o i 0) (length (rowOf o cs i))) ∙ ap (λ (e : ℕ). n * n * e) (end ∙ ap (λ (k : ℕ). getD o k 0) (sym next)) in
+      rw (own-rows i (omega arith), own-row f n (rowOf o cs i) (getD o i 0) values (markable o cs valid most i below few) fits)
+      (sym (take-add (n * n * getD o i 0) (n * n * length (rowOf o cs i)) values) ∙ ap (λ (e : ℕ). take e values) size)
+
+  own-all : values ≡ copiedRows f n o cs values o cs
+  unfolding copiedRows
+  own-all =
+      let last : n * n * getD o (rowsOf o) 0 ≡ n * n * length cs = ap (λ (e : ℕ). n * n * e) (offset-last o cs (valid-offsets o cs (pattern-entries o cs valid))) in
+      sym (own-rows (rowsOf o) (omega arith) ∙ take-all (n * n * getD o (rowsOf o) 0) values (omega (arith, last, stored)))
+
+-- what was put whole is then what is to be copied
+pub same-copied : (f : Format) {n : ℕ} {starts entries o cs : List ℕ} (values : List Float) {room : ℕ} → CopyFits n starts entries o cs (length values) room → starts ≡ o → entries ≡ cs
+    → values ≡ copiedRows f n starts entries values o cs
+same-copied f {n = n} {o = o} {cs = cs} values fit p q =
+    let pat = fit .patterns in
+    rw (p, q) (own-all f n o cs values (pat .valid-factor) (omega (arith, pat .same, pat .most)) (pat .few-columns) (fit .of-a ∙ ap (λ (l : List ℕ). n * n * length l) q))
+
+-- and there are as many
+pub same-long : {n : ℕ} {starts entries o cs : List ℕ} {a-values values : ℕ} → CopyFits n starts entries o cs a-values values → entries ≡ cs → a-values ≡ values
+same-long {n = n} fit q = fit .of-a ∙ ap (λ (l : List ℕ). n * n * length l) q ∙ sym (fit .of-values)

@@ -3,3 +3,5 @@
 pub mod JoinLaws
 pub mod RowLaws
 pub mod AllLaws
+pub mod OntoLaws
+pub mod ScatterLaws

@@ -1,23 +1,24 @@
-// The copy without checks, with N as the number `dim`: a lookup of every entry of A, and then the work row by row.
-// These functions ask that both patterns are valid and that the lengths fit them, so that no user calls them.
+// The copy without checks, with N as the number `dim`, row by row.
+// These functions ask that both patterns are valid, that each entry of A has a place and that the lengths fit, so that no user calls them.
 use answers::Index;
 use blocks::unchecked::block_1;
 use blocks::unchecked::block_2;
 use blocks::unchecked::block_3;
 use blocks::unchecked::put;
+use copy_check::unchecked::is_same_pattern;
 use places::unchecked::mark_row;
 use places::unchecked::place_of;
 ghost use mathlib.Core.Path.{_≡_};
 ghost use mathlib.Core.Bool.{true};
 ghost use Prim.Native.Nat.{_+_, _*_, _≤_, _<_};
-ghost use lib.ListN.{length};
+ghost use lib.ListN.{length, getD};
 ghost use lib.Ieee.{binary64};
-ghost use Rattle.lent.specs.Steps.{Dim};
-ghost use Rattle.patterns.specs.Pattern.{allBelow};
-ghost use Rattle.rows.specs.Lookup.{noPlace, placeIn};
-ghost use Rattle.factors.specs.Copy.{rowHasPlaces, allHavePlaces, blockOrZero, copiedRow, copiedRows};
+ghost use Rattle.base.specs.Iterate.{iterate};
+ghost use Rattle.rows.specs.Lookup.{noPlace};
+ghost use Rattle.factors.specs.Copy.{rowHasPlaces, blockOrZero, copiedRow, copiedRows};
 ghost use Rattle.places.specs.Places.{Markable, Marked};
-ghost use Rattle.copy_rows.specs.Steps.{Agree, copiedFrom, CopyRow, Patterns, CopyFits};
+ghost use Rattle.copy_rows.specs.Steps.{CopyRow, CopyFits};
+ghost use Rattle.copy_rows.specs.Scatter.{Guided, Zeros, putMarked};
 
 fn wide(x: u32) -> usize
     ensures { λ r. ⌜ r ≡ x ⌝ }
@@ -25,62 +26,10 @@ fn wide(x: u32) -> usize
     x as usize
 }
 
-// How many columns two rows of one length begin with alike: these need no marks, and a row of ILU(0) has no others if A's is sorted.
-// Rows that differ in length have others at once, and are not gone through for that.
-fn agreeing(row: &[u32], from: &[u32]) -> usize
-    ensures { λ r. ⌜ Agree (now (row .entry)) (now (from .entry)) r ⌝ }
+fn wide_mark(x: u8) -> usize
+    ensures { λ r. ⌜ r ≡ x ⌝ }
 {
-    if row.len() != from.len() {
-        return 0;
-    }
-    let mut k = 0;
-    while k < row.len() {
-        if row[k] != from[k] {
-            return k;
-        }
-        k += 1;
-    }
-    k
-}
-
-// Whether each column of A's row has a place in the factor's row.
-fn row_has_places(marks: &mut [u8; 4096], row: &[u32], from: &[u32]) -> bool
-    requires { ⌜ (length (now marks) ≡ 4096) × (Markable (now row)) × (allBelow 4096 (now from) ≡ true) ⌝ }
-    ensures { λ r. ⌜ (r ≡ rowHasPlaces (now (row .entry)) (now (from .entry))) × (length (now (marks .exit)) ≡ 4096) ⌝ }
-{
-    let mut k = agreeing(row, from);
-    if k == from.len() {
-        return true;
-    }
-    mark_row(marks, row);
-    while k < from.len() {
-        if place_of(marks, row, from[k]) == Index::NO_PLACE {
-            return false;
-        }
-        k += 1;
-    }
-    true
-}
-
-// Whether each entry of A has a place in the factor.
-pub fn has_all_places(starts: &[u32], entries: &[u32], offsets: &[u32], columns: &[u32]) -> bool
-    requires { ⌜ Patterns (now starts) (now entries) (now offsets) (now columns) ⌝ }
-    ensures { λ r. ⌜ r ≡ allHavePlaces (now (starts .entry)) (now (entries .entry)) (now (offsets .entry)) (now (columns .entry)) ⌝ }
-{
-    let mut marks = [0u8; 4096];
-    let rows = starts.len() - 1;
-    let mut i = 0;
-    while i < rows {
-        let first = starts[i] as usize;
-        let past = starts[i + 1] as usize;
-        let from = offsets[i] as usize;
-        let to = offsets[i + 1] as usize;
-        if !row_has_places(&mut marks, &columns[from..to], &entries[first..past]) {
-            return false;
-        }
-        i += 1;
-    }
-    true
+    x as usize
 }
 
 // The block at a place of A's row, whose first entry is `first`, or +0.
@@ -114,20 +63,19 @@ fn block_or_zero_3(values: &[f64], first: usize, place: u32) -> [f64; 9]
     block_3(values, first + wide(place))
 }
 
-// The blocks of a row from place `start` on, where A's row is marked: each is written once.
-fn copy_rest_1(
+// The blocks of a row where A's row is marked: each is looked up, and written once.
+fn gather_1(
     out: &mut [f64],
-    start: usize,
     marks: &[u8; 4096],
     row: &[u32],
     from: &[u32],
     first: usize,
     values: &[f64],
 )
-    requires { ⌜ (CopyRow 1 (now row) (now from) first (length (now values)) (length (now out))) × (Marked (now from) (now marks)) × (start ≤ length (now row)) ⌝ }
-    ensures { λ _. ⌜ now (out .exit) ≡ copiedFrom binary64 1 (now (from .entry)) first (now (values .entry)) (now (row .entry)) start (now (out .entry)) ⌝ }
+    requires { ⌜ (CopyRow 1 (now row) (now from) first (length (now values)) (length (now out))) × (Marked (now from) (now marks)) ⌝ }
+    ensures { λ _. ⌜ now (out .exit) ≡ copiedRow binary64 1 (now (from .entry)) first (now (values .entry)) (now (row .entry)) ⌝ }
 {
-    let mut p = start;
+    let mut p = 0;
     while p < row.len() {
         let place = place_of(marks, from, row[p]);
         let block = block_or_zero_1(values, first, place);
@@ -136,19 +84,18 @@ fn copy_rest_1(
     }
 }
 
-fn copy_rest_2(
+fn gather_2(
     out: &mut [f64],
-    start: usize,
     marks: &[u8; 4096],
     row: &[u32],
     from: &[u32],
     first: usize,
     values: &[f64],
 )
-    requires { ⌜ (CopyRow 2 (now row) (now from) first (length (now values)) (length (now out))) × (Marked (now from) (now marks)) × (start ≤ length (now row)) ⌝ }
-    ensures { λ _. ⌜ now (out .exit) ≡ copiedFrom binary64 2 (now (from .entry)) first (now (values .entry)) (now (row .entry)) start (now (out .entry)) ⌝ }
+    requires { ⌜ (CopyRow 2 (now row) (now from) first (length (now values)) (length (now out))) × (Marked (now from) (now marks)) ⌝ }
+    ensures { λ _. ⌜ now (out .exit) ≡ copiedRow binary64 2 (now (from .entry)) first (now (values .entry)) (now (row .entry)) ⌝ }
 {
-    let mut p = start;
+    let mut p = 0;
     while p < row.len() {
         let place = place_of(marks, from, row[p]);
         let block = block_or_zero_2(values, first, place);
@@ -157,19 +104,18 @@ fn copy_rest_2(
     }
 }
 
-fn copy_rest_3(
+fn gather_3(
     out: &mut [f64],
-    start: usize,
     marks: &[u8; 4096],
     row: &[u32],
     from: &[u32],
     first: usize,
     values: &[f64],
 )
-    requires { ⌜ (CopyRow 3 (now row) (now from) first (length (now values)) (length (now out))) × (Marked (now from) (now marks)) × (start ≤ length (now row)) ⌝ }
-    ensures { λ _. ⌜ now (out .exit) ≡ copiedFrom binary64 3 (now (from .entry)) first (now (values .entry)) (now (row .entry)) start (now (out .entry)) ⌝ }
+    requires { ⌜ (CopyRow 3 (now row) (now from) first (length (now values)) (length (now out))) × (Marked (now from) (now marks)) ⌝ }
+    ensures { λ _. ⌜ now (out .exit) ≡ copiedRow binary64 3 (now (from .entry)) first (now (values .entry)) (now (row .entry)) ⌝ }
 {
-    let mut p = start;
+    let mut p = 0;
     while p < row.len() {
         let place = place_of(marks, from, row[p]);
         let block = block_or_zero_3(values, first, place);
@@ -178,51 +124,254 @@ fn copy_rest_3(
     }
 }
 
-// The same with N as a number: it is chosen once a row, since a choice at each block is slower.
-fn copy_rest(
+// The mark of a column, as a place.
+fn place_at(marks: &[u8; 4096], column: u32) -> usize
+    requires { ⌜ (length (now marks) ≡ 4096) × (column < 4096) ⌝ }
+    ensures { λ r. ⌜ r ≡ getD (now (marks .entry)) column 0 ⌝ }
+{
+    wide_mark(marks[wide(column)])
+}
+
+// The values of four columns of A's row, each put where its mark says. All is read before the first value is written: the reads are then made at once.
+fn put_four(
     out: &mut [f64],
-    start: usize,
-    dim: usize,
     marks: &[u8; 4096],
-    row: &[u32],
     from: &[u32],
+    k: usize,
     first: usize,
     values: &[f64],
 )
-    requires { ⌜ (Dim dim) × (CopyRow dim (now row) (now from) first (length (now values)) (length (now out))) × (Marked (now from) (now marks)) × (start ≤ length (now row)) ⌝ }
-    ensures { λ _. ⌜ now (out .exit) ≡ copiedFrom binary64 dim (now (from .entry)) first (now (values .entry)) (now (row .entry)) start (now (out .entry)) ⌝ }
+    requires { ⌜ (Guided (now from) (now marks) (length (now out))) × (k + 4 ≤ length (now from)) × (first + length (now from) ≤ length (now values)) ⌝ }
+    ensures { λ _. ⌜ now (out .exit) ≡ iterate (putMarked (now (from .entry)) first (now (values .entry)) (now (marks .entry))) k (k + 4) (now (out .entry)) ⌝ }
 {
-    match dim {
-        1 => copy_rest_1(out, start, marks, row, from, first, values),
-        2 => copy_rest_2(out, start, marks, row, from, first, values),
-        _ => copy_rest_3(out, start, marks, row, from, first, values),
+    let p0 = place_at(marks, from[k]);
+    let p1 = place_at(marks, from[k + 1]);
+    let p2 = place_at(marks, from[k + 2]);
+    let p3 = place_at(marks, from[k + 3]);
+    let v0 = values[first + k];
+    let v1 = values[first + (k + 1)];
+    let v2 = values[first + (k + 2)];
+    let v3 = values[first + (k + 3)];
+    out[p0] = v0;
+    out[p1] = v1;
+    out[p2] = v2;
+    out[p3] = v3;
+}
+
+// Those from a place on, one at a time.
+fn put_rest(
+    out: &mut [f64],
+    marks: &[u8; 4096],
+    from: &[u32],
+    start: usize,
+    first: usize,
+    values: &[f64],
+)
+    requires { ⌜ (Guided (now from) (now marks) (length (now out))) × (start ≤ length (now from)) × (first + length (now from) ≤ length (now values)) ⌝ }
+    ensures { λ _. ⌜ now (out .exit) ≡ iterate (putMarked (now (from .entry)) first (now (values .entry)) (now (marks .entry))) start (length (now (from .entry))) (now (out .entry)) ⌝ }
+{
+    let mut k = start;
+    while k < from.len() {
+        let place = place_at(marks, from[k]);
+        out[place] = values[first + k];
+        k += 1;
     }
 }
 
-// A row: the blocks of the columns that both rows begin with at once, then the others.
-fn copy_row(
+// All of them, four at a time.
+fn put_all(out: &mut [f64], marks: &[u8; 4096], from: &[u32], first: usize, values: &[f64])
+    requires { ⌜ (Guided (now from) (now marks) (length (now out))) × (first + length (now from) ≤ length (now values)) ⌝ }
+    ensures { λ _. ⌜ now (out .exit) ≡ iterate (putMarked (now (from .entry)) first (now (values .entry)) (now (marks .entry))) 0 (length (now (from .entry))) (now (out .entry)) ⌝ }
+{
+    let mut k = 0;
+    while k + 4 <= from.len() {
+        put_four(out, marks, from, k, first, values);
+        k += 4;
+    }
+    put_rest(out, marks, from, k, first, values);
+}
+
+// All values become +0, unless `count` others are to be put, as many as there are: then each is written all the same.
+fn clear_unless(out: &mut [f64], count: usize)
+    ensures { λ _. ⌜ (length (now (out .exit)) ≡ length (now (out .entry))) × ((length (now (out .entry)) ≡ count → ⊥) → Zeros binary64 (now (out .exit)) (length (now (out .exit)))) ⌝ }
+{
+    if out.len() == count {
+        return;
+    }
+    let mut q = 0;
+    while q < out.len() {
+        out[q] = 0.0;
+        q += 1;
+    }
+}
+
+// A row of at most 256 columns at N = 1: the factor's row is marked, so that a mark is the whole place, and A's values go to their places.
+fn scatter_row(
     out: &mut [f64],
     marks: &mut [u8; 4096],
-    dim: usize,
     row: &[u32],
     from: &[u32],
     first: usize,
     values: &[f64],
 )
-    requires { ⌜ (length (now marks) ≡ 4096) × (Dim dim) × (CopyRow dim (now row) (now from) first (length (now values)) (length (now out))) ⌝ }
-    ensures { λ _. ⌜ (now (out .exit) ≡ copiedRow binary64 dim (now (from .entry)) first (now (values .entry)) (now (row .entry))) × (length (now (marks .exit)) ≡ 4096) ⌝ }
+    requires { ⌜ (length (now marks) ≡ 4096) × (CopyRow 1 (now row) (now from) first (length (now values)) (length (now out))) × (Markable (now row)) × (rowHasPlaces (now row) (now from) ≡ true) × (length (now row) ≤ 256) ⌝ }
+    ensures { λ _. ⌜ (now (out .exit) ≡ copiedRow binary64 1 (now (from .entry)) first (now (values .entry)) (now (row .entry))) × (length (now (marks .exit)) ≡ 4096) ⌝ }
 {
-    let same = agreeing(row, from);
-    let begin = dim * dim * first;
-    let end = begin + dim * dim * same;
-    put(out, 0, &values[begin..end]);
-    if same < row.len() {
+    mark_row(marks, row);
+    clear_unless(out, from.len());
+    put_all(out, marks, from, first, values);
+}
+
+// A row at N = 1: blocks of one value are put where they go, and larger ones are quicker looked up.
+fn row_1(
+    out: &mut [f64],
+    marks: &mut [u8; 4096],
+    row: &[u32],
+    from: &[u32],
+    first: usize,
+    values: &[f64],
+)
+    requires { ⌜ (length (now marks) ≡ 4096) × (CopyRow 1 (now row) (now from) first (length (now values)) (length (now out))) × (Markable (now row)) × (rowHasPlaces (now row) (now from) ≡ true) ⌝ }
+    ensures { λ _. ⌜ (now (out .exit) ≡ copiedRow binary64 1 (now (from .entry)) first (now (values .entry)) (now (row .entry))) × (length (now (marks .exit)) ≡ 4096) ⌝ }
+{
+    if row.len() > 256 {
         mark_row(marks, from);
-        copy_rest(out, same, dim, marks, row, from, first, values);
+        gather_1(out, marks, row, from, first, values);
+    } else {
+        scatter_row(out, marks, row, from, first, values);
     }
 }
 
-// The entries of all rows.
+fn row_2(
+    out: &mut [f64],
+    marks: &mut [u8; 4096],
+    row: &[u32],
+    from: &[u32],
+    first: usize,
+    values: &[f64],
+)
+    requires { ⌜ (length (now marks) ≡ 4096) × (CopyRow 2 (now row) (now from) first (length (now values)) (length (now out))) ⌝ }
+    ensures { λ _. ⌜ (now (out .exit) ≡ copiedRow binary64 2 (now (from .entry)) first (now (values .entry)) (now (row .entry))) × (length (now (marks .exit)) ≡ 4096) ⌝ }
+{
+    mark_row(marks, from);
+    gather_2(out, marks, row, from, first, values);
+}
+
+fn row_3(
+    out: &mut [f64],
+    marks: &mut [u8; 4096],
+    row: &[u32],
+    from: &[u32],
+    first: usize,
+    values: &[f64],
+)
+    requires { ⌜ (length (now marks) ≡ 4096) × (CopyRow 3 (now row) (now from) first (length (now values)) (length (now out))) ⌝ }
+    ensures { λ _. ⌜ (now (out .exit) ≡ copiedRow binary64 3 (now (from .entry)) first (now (values .entry)) (now (row .entry))) × (length (now (marks .exit)) ≡ 4096) ⌝ }
+{
+    mark_row(marks, from);
+    gather_3(out, marks, row, from, first, values);
+}
+
+// The entries of all rows. N is chosen once a call: with a choice at each row all three ways share one loop, and that is slower.
+fn copy_rows_1(
+    values: &mut [f64],
+    starts: &[u32],
+    entries: &[u32],
+    a_values: &[f64],
+    offsets: &[u32],
+    columns: &[u32],
+)
+    requires { ⌜ CopyFits 1 (now starts) (now entries) (now offsets) (now columns) (length (now «a_values»)) (length (now values)) ⌝ }
+    ensures { λ _. ⌜ now (values .exit) ≡ copiedRows binary64 1 (now (starts .entry)) (now (entries .entry)) (now («a_values» .entry)) (now (offsets .entry)) (now (columns .entry)) ⌝ }
+{
+    let mut marks = [0u8; 4096];
+    let rows = offsets.len() - 1;
+    let mut i = 0;
+    while i < rows {
+        let first = starts[i] as usize;
+        let past = starts[i + 1] as usize;
+        let from = offsets[i] as usize;
+        let to = offsets[i + 1] as usize;
+        let begin = 1 * from;
+        let end = 1 * to;
+        row_1(
+            &mut values[begin..end],
+            &mut marks,
+            &columns[from..to],
+            &entries[first..past],
+            first,
+            a_values,
+        );
+        i += 1;
+    }
+}
+
+fn copy_rows_2(
+    values: &mut [f64],
+    starts: &[u32],
+    entries: &[u32],
+    a_values: &[f64],
+    offsets: &[u32],
+    columns: &[u32],
+)
+    requires { ⌜ CopyFits 2 (now starts) (now entries) (now offsets) (now columns) (length (now «a_values»)) (length (now values)) ⌝ }
+    ensures { λ _. ⌜ now (values .exit) ≡ copiedRows binary64 2 (now (starts .entry)) (now (entries .entry)) (now («a_values» .entry)) (now (offsets .entry)) (now (columns .entry)) ⌝ }
+{
+    let mut marks = [0u8; 4096];
+    let rows = offsets.len() - 1;
+    let mut i = 0;
+    while i < rows {
+        let first = starts[i] as usize;
+        let past = starts[i + 1] as usize;
+        let from = offsets[i] as usize;
+        let to = offsets[i + 1] as usize;
+        let begin = 4 * from;
+        let end = 4 * to;
+        row_2(
+            &mut values[begin..end],
+            &mut marks,
+            &columns[from..to],
+            &entries[first..past],
+            first,
+            a_values,
+        );
+        i += 1;
+    }
+}
+
+fn copy_rows_3(
+    values: &mut [f64],
+    starts: &[u32],
+    entries: &[u32],
+    a_values: &[f64],
+    offsets: &[u32],
+    columns: &[u32],
+)
+    requires { ⌜ CopyFits 3 (now starts) (now entries) (now offsets) (now columns) (length (now «a_values»)) (length (now values)) ⌝ }
+    ensures { λ _. ⌜ now (values .exit) ≡ copiedRows binary64 3 (now (starts .entry)) (now (entries .entry)) (now («a_values» .entry)) (now (offsets .entry)) (now (columns .entry)) ⌝ }
+{
+    let mut marks = [0u8; 4096];
+    let rows = offsets.len() - 1;
+    let mut i = 0;
+    while i < rows {
+        let first = starts[i] as usize;
+        let past = starts[i + 1] as usize;
+        let from = offsets[i] as usize;
+        let to = offsets[i + 1] as usize;
+        let begin = 9 * from;
+        let end = 9 * to;
+        row_3(
+            &mut values[begin..end],
+            &mut marks,
+            &columns[from..to],
+            &entries[first..past],
+            first,
+            a_values,
+        );
+        i += 1;
+    }
+}
+
 fn copy_all_rows(
     values: &mut [f64],
     dim: usize,
@@ -235,27 +384,30 @@ fn copy_all_rows(
     requires { ⌜ CopyFits dim (now starts) (now entries) (now offsets) (now columns) (length (now «a_values»)) (length (now values)) ⌝ }
     ensures { λ _. ⌜ now (values .exit) ≡ copiedRows binary64 dim (now (starts .entry)) (now (entries .entry)) (now («a_values» .entry)) (now (offsets .entry)) (now (columns .entry)) ⌝ }
 {
-    let mut marks = [0u8; 4096];
-    let rows = offsets.len() - 1;
-    let size = dim * dim;
-    let mut i = 0;
-    while i < rows {
-        let first = starts[i] as usize;
-        let past = starts[i + 1] as usize;
-        let from = offsets[i] as usize;
-        let to = offsets[i + 1] as usize;
-        let begin = size * from;
-        let end = size * to;
-        copy_row(
-            &mut values[begin..end],
-            &mut marks,
-            dim,
-            &columns[from..to],
-            &entries[first..past],
-            first,
-            a_values,
-        );
-        i += 1;
+    match dim {
+        1 => copy_rows_1(values, starts, entries, a_values, offsets, columns),
+        2 => copy_rows_2(values, starts, entries, a_values, offsets, columns),
+        _ => copy_rows_3(values, starts, entries, a_values, offsets, columns),
+    }
+}
+
+// The entries: those of A as they are, if the factor has its pattern.
+fn copy_entries(
+    values: &mut [f64],
+    dim: usize,
+    starts: &[u32],
+    entries: &[u32],
+    a_values: &[f64],
+    offsets: &[u32],
+    columns: &[u32],
+)
+    requires { ⌜ CopyFits dim (now starts) (now entries) (now offsets) (now columns) (length (now «a_values»)) (length (now values)) ⌝ }
+    ensures { λ _. ⌜ now (values .exit) ≡ copiedRows binary64 dim (now (starts .entry)) (now (entries .entry)) (now («a_values» .entry)) (now (offsets .entry)) (now (columns .entry)) ⌝ }
+{
+    if is_same_pattern(starts, entries, offsets, columns) {
+        put(values, 0, a_values);
+    } else {
+        copy_all_rows(values, dim, starts, entries, a_values, offsets, columns);
     }
 }
 
@@ -275,5 +427,5 @@ pub fn copy_value(
     ensures { λ _. ⌜ (now (diagonal .exit) ≡ now («a_diagonal» .entry)) × (now (values .exit) ≡ copiedRows binary64 dim (now (starts .entry)) (now (entries .entry)) (now («a_values» .entry)) (now (offsets .entry)) (now (columns .entry))) ⌝ }
 {
     put(diagonal, 0, a_diagonal);
-    copy_all_rows(values, dim, starts, entries, a_values, offsets, columns);
+    copy_entries(values, dim, starts, entries, a_values, offsets, columns);
 }

@@ -17,7 +17,8 @@ use Rattle.patterns.specs.Checks.{tooLarge}
 use Rattle.patterns.proofs.SizeLaws.{rows-least, rows-most, columns-most}
 use Rattle.matrix.specs.Checks.{wrongValues}
 use Rattle.factors.specs.Copy.{allHavePlaces}
-use Rattle.copy_rows.specs.Steps.{Patterns, CopyFits}
+use Rattle.copy_check.specs.Steps.{Patterns}
+use Rattle.copy_rows.specs.Steps.{CopyFits}
 use Rattle.copying.specs.Checks.{wrongShape, copyLengths, copyRules, copyChecks}
 
 -- two written slices that are as they should be, as one pair
@@ -98,6 +99,13 @@ module _ (starts entries offsets columns splits : List ℕ) (none : noneHolds (c
         not-false _ (or-right (not (validPattern starts entries)) (not (validPattern offsets columns)) neither),
       )
 
+  pub all-placed : allHavePlaces starts entries offsets columns ≡ true
+  unfolding invalid
+  all-placed =
+      let split = not (validSplits offsets columns splits) in
+      let lost = not (allHavePlaces starts entries offsets columns) in
+      not-false _ (this-passes lost true (later-pass split (not lost && true) (later-pass invalid (not split && (not lost && true)) none)))
+
 -- so that the unchecked functions may work
 pub patterns-of : (starts entries offsets columns : List ℕ) → tooLarge (length starts) (length entries) ≡ false → tooLarge (length offsets) (length columns) ≡ false
     → rowsOf offsets ≡ rowsOf starts → validPattern starts entries ≡ true → validPattern offsets columns ≡ true → Patterns starts entries offsets columns
@@ -128,6 +136,7 @@ module _ (n : ℕ) (starts entries : List ℕ) (a-diagonal a-values : ℕ) (offs
         record {
           dim = dim;
           patterns = patterns-of starts entries offsets columns (shape .sized) (shape .sized-factor) (shape .same) (valid .0) (valid .1);
+          placed = all-placed starts entries offsets columns splits (later-pass wrong rules later);
           of-a = values-are n (rowsOf starts) (length entries) a-values a-diagonal (shape .of-a);
           of-values = values-are n (rowsOf offsets) (length columns) values diagonal (shape .of-factor);
         },

@@ -54,7 +54,7 @@ pub extern "C" fn pierbramble_unchecked_decompose(
     decompose::unchecked::decompose(diagonal, values, dim as usize, offsets, columns, splits)
 }
 
-// Neither the splits nor the places of A's entries are looked at: where the factor has none for an entry, it is dropped.
+// Neither the splits nor the places of A's entries are looked at: the caller knows that there is one for each.
 #[no_mangle]
 pub extern "C" fn pierbramble_unchecked_copy_value(
     dim: u32,

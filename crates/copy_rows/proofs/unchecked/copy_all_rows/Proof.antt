@@ -1,163 +1,36 @@
--- `unchecked::copy_all_rows` meets its promise: after i turns the first i rows have their blocks.
+-- `unchecked::copy_all_rows` meets its promise: for each N its own loop.
 -- Assumes nothing.
-use mathlib.Core.Path.{_≡_, refl}
-use mathlib.Core.List.{_++_}
-use Prim.Native.Nat.{ℕ, _+_, _-_, _*_, _≤_}
+use mathlib.Core.Path.{_≡_}
 use native.Mathlib.Omega.{arith}
-use lib.ListN.{length, getD, drop, length-replicate}
-use lib.Ieee.{binary64}
-use Rattle.patterns.specs.Pattern.{rowsOf, rowOf}
-use Rattle.factors.specs.Copy.{joined}
-use Rattle.copy_rows.proofs.AllLaws.{both-ends, copies, block-most, places, part-length, copied, rows-none, rows-more, rows-kept, rows-all}
 use borrow.Author.Needs.{needs}
 use Rattle.copy_rows.proofs.unchecked.copy_all_rows.Statement.{statement}
 use Rattle.copy_rows.proofs.unchecked.copy_all_rows.Tie as tie
 
-abbrev Inv-loop : tie.InvT-loop
-Inv-loop values₀ dim starts entries a-values offsets columns marks₀ rows size i₀ values marks i =
-    (length values ≡ length values₀) × (length marks ≡ 4096) × (i ≤ rows)
-    × (values ≡ joined i (copied binary64 dim starts entries a-values offsets columns) ++ drop (dim * dim * getD offsets i 0) values₀)
+copy-rows-1-requires : tie.Need-copy-rows-1-requires
+copy-rows-1-requires c κs = rw (c .before .match .keys1) at (c .before .before .before .before .before .before .before .before .pre)
 
-abbrev μ-loop : tie.MeasureT-loop
-μ-loop values₀ dim starts entries a-values offsets columns marks₀ rows size i₀ values marks i = rows - i
+copy-rows-2-requires : tie.Need-copy-rows-2-requires
+copy-rows-2-requires c κs = rw (c .before .match .keys2) at (c .before .before .before .before .before .before .before .before .pre)
 
--- where the function began
-abbrev start : tie.At-loop Inv-loop μ-loop → tie.Start Inv-loop μ-loop
-start c = c .before .before .before .before .before .before .before
+copy-rows-3-requires : tie.Need-copy-rows-3-requires
+copy-rows-3-requires c κs =
+    let s = c .before .before .before .before .before .before .before .before in
+    let e : s .args .dim ≡ 3 = omega (arith, s .pre .dim) in
+    rw e at (s .pre)
 
--- the parts of row i lie within their lists
-ends : (c : tie.In-loop Inv-loop μ-loop) →
-    let a = start (c .before) .args in
-    let i = c .before .loop .i in
-    (getD (a .starts .now) i 0 ≤ getD (a .starts .now) (i + 1) 0) × (getD (a .starts .now) (i + 1) 0 ≤ length (a .entries .now))
-    × (getD (a .offsets .now) i 0 ≤ getD (a .offsets .now) (i + 1) 0) × (getD (a .offsets .now) (i + 1) 0 ≤ length (a .columns .now))
-ends c = both-ends (start (c .before) .pre .patterns) (c .before .loop .i) (omega (arith, start (c .before) .pre .patterns .same))
+returns : tie.Need-returns
+returns c = rw (c .before .before .before .before .match .keys1) (c .before .before .copy-rows-1 .ensures)
 
--- and so do its values
-filled : (c : tie.In-loop Inv-loop μ-loop) →
-    let a = start (c .before) .args in
-    let i = c .before .loop .i in
-    (a .dim * a .dim * getD (a .offsets .now) i 0 ≤ a .dim * a .dim * getD (a .offsets .now) (i + 1) 0)
-    × (a .dim * a .dim * getD (a .offsets .now) (i + 1) 0 ≤ length (c .before .loop .values))
-filled c =
-    let fit = start (c .before) .pre in
-    let e = places fit (c .before .loop .i) (omega (arith, fit .patterns .same)) in
-    (e .0, omega (arith, e .1, c .before .loop .inv .0))
+returns-2 : tie.Need-returns-2
+returns-2 c = rw (c .before .before .before .before .match .keys2) (c .before .before .copy-rows-2 .ensures)
 
-sub-rows : tie.Need-sub-rows Inv-loop μ-loop
-sub-rows c = let fit = c .before .before .before .before .before .before .pre in omega (arith, fit .patterns .some, fit .patterns .same)
-
-mul-size : tie.Need-mul-size Inv-loop μ-loop
-mul-size c = omega (arith, block-most (c .before .before .before .before .before .before .pre))
-
-loop-holds : tie.Need-loop-holds Inv-loop μ-loop
-loop-holds c =
-    let s = c .before .before .before .before .before .before in
-    let a = s .args in
-    (refl, length-replicate {A = ℕ} 4096 0, search needs, rows-none binary64 (a .dim) (a .starts .now) (a .entries .now) (a .a-values .now) (a .offsets .now) (a .columns .now) (s .pre .patterns .valid-factor) _)
-
-shared-slice-read-first : tie.Need-shared-slice-read-first Inv-loop μ-loop
-shared-slice-read-first c = omega (arith, start (c .before .before) .pre .patterns .same)
-
-cast-first : tie.Need-cast-first Inv-loop μ-loop
-cast-first c = record { fits = omega (arith, c .shared-slice-known6 .given (c .before .before .loop .i)) }
-
-shared-slice-read-past : tie.Need-shared-slice-read-past Inv-loop μ-loop
-shared-slice-read-past c = omega (arith, start (c .before .before .before) .pre .patterns .same)
-
-cast-past : tie.Need-cast-past Inv-loop μ-loop
-cast-past c = record { fits = omega (arith, c .shared-slice-known7 .given (c .before .before .before .loop .i + 1)) }
-
-cast-from : tie.Need-cast-from Inv-loop μ-loop
-cast-from c = record { fits = omega (arith, c .shared-slice-known8 .given (c .before .before .before .before .loop .i)) }
-
-cast-to : tie.Need-cast-to Inv-loop μ-loop
-cast-to c = record { fits = omega (arith, c .shared-slice-known9 .given (c .before .before .before .before .before .loop .i + 1)) }
-
-mul-begin : tie.Need-mul-begin Inv-loop μ-loop
-mul-begin c = omega (arith, filled (c .before .before .before .before))
-
-mul-end : tie.Need-mul-end Inv-loop μ-loop
-mul-end c = omega (arith, filled (c .before .before .before .before))
-
-mul-copy-row : tie.Need-mul-copy-row Inv-loop μ-loop
-mul-copy-row c = omega (arith, filled (c .before .before .before .before))
-
-sub-copy-row : tie.Need-sub-copy-row Inv-loop μ-loop
-sub-copy-row c = omega (arith, filled (c .before .before .before .before))
-
-part-copy-row-start : tie.Need-part-copy-row-start Inv-loop μ-loop
-part-copy-row-start c = omega (arith, filled (c .before .before .before .before))
-
-part-copy-row-end : tie.Need-part-copy-row-end Inv-loop μ-loop
-part-copy-row-end c = omega (arith, filled (c .before .before .before .before))
-
-mul-copy-row-2 : tie.Need-mul-copy-row-2 Inv-loop μ-loop
-mul-copy-row-2 c = omega (arith, ends (c .before .before .before .before .before .before))
-
-sub-copy-row-2 : tie.Need-sub-copy-row-2 Inv-loop μ-loop
-sub-copy-row-2 c = omega (arith, ends (c .before .before .before .before .before .before))
-
-part-copy-row-start-2 : tie.Need-part-copy-row-start-2 Inv-loop μ-loop
-part-copy-row-start-2 c = omega (arith, ends (c .before .before .before .before .before .before))
-
-part-copy-row-end-2 : tie.Need-part-copy-row-end-2 Inv-loop μ-loop
-part-copy-row-end-2 c = omega (arith, ends (c .before .before .before .before .before .before))
-
-mul-copy-row-3 : tie.Need-mul-copy-row-3 Inv-loop μ-loop
-mul-copy-row-3 c = omega (arith, ends (c .before .before .before .before .before .before .before))
-
-sub-copy-row-3 : tie.Need-sub-copy-row-3 Inv-loop μ-loop
-sub-copy-row-3 c = omega (arith, ends (c .before .before .before .before .before .before .before))
-
-part-copy-row-start-3 : tie.Need-part-copy-row-start-3 Inv-loop μ-loop
-part-copy-row-start-3 c = omega (arith, ends (c .before .before .before .before .before .before .before))
-
-part-copy-row-end-3 : tie.Need-part-copy-row-end-3 Inv-loop μ-loop
-part-copy-row-end-3 c = omega (arith, ends (c .before .before .before .before .before .before .before))
-
-copy-row-requires : tie.Need-copy-row-requires Inv-loop μ-loop
-unfolding rowOf
-copy-row-requires c κs =
-    let test = c .before .before .before .before .before .before .before .before in
-    let at = test .before in
-    let fit = start at .pre in
-    let e = filled test in (
-      at .loop .inv .1,
-      fit .dim,
-      copies (fit .patterns) (at .loop .i) (omega (arith, fit .patterns .same)) (start at .args .dim) _ (fit .of-a) _ (part-length _ _ (at .loop .values) (e .0) (e .1)),
-    )
-
-loop-again : tie.Need-loop-again Inv-loop μ-loop
-unfolding rowOf
-loop-again c =
-    let call = c .before .before in
-    let at = c .before .before .before .before .before .before .before .before .before .before .before .before in
-    let s = start at in
-    let a = s .args in
-    let e = filled (c .before .before .before .before .before .before .before .before .before .before .before) in
-    let more : at .loop .i + 1 ≤ rowsOf (a .offsets .now) = omega (arith, c .before .before .before .before .before .before .before .before .before .before .before .loop-test .taken) in
-    let next = rows-more binary64 (a .dim) (a .starts .now) (a .entries .now) (a .a-values .now) (a .offsets .now) (a .columns .now) (s .pre .patterns .valid-factor) (at .loop .i) _ _ (a .values .now) (at .loop .values) _ _ (omega arith) refl refl
-    (at .loop .inv .3) (call .copy-row .ensures .0) refl in (
-      rows-kept binary64 (a .dim) (a .starts .now) (a .entries .now) (a .a-values .now) (a .offsets .now) (a .columns .now) (s .pre .patterns .valid-factor) (at .loop .i + 1) (a .values .now) _ more (omega (arith, e .1, at .loop .inv .0)) next,
-      call .copy-row .ensures .1,
-      more,
-      next,
-    )
-
-returns : tie.Need-returns Inv-loop μ-loop
-returns c =
-    let at = c .before in
-    let s = start at in
-    let a = s .args in
-    let e : at .loop .i ≡ rowsOf (a .offsets .now) = omega arith in
-    rows-all binary64 (a .dim) (a .starts .now) (a .entries .now) (a .a-values .now) (a .offsets .now) (a .columns .now) (s .pre .patterns .valid-factor) (a .values .now) _ (s .pre .of-values) (rw e at (at .loop .inv .3))
+returns-3 : tie.Need-returns-3
+returns-3 c =
+    let s = c .before .before .before .before .before .before .before .before .before .before .before in
+    let e : s .args .dim ≡ 3 = omega (arith, s .pre .dim) in
+    rw e (c .before .before .copy-rows-3 .ensures)
 
 pub copy-all-rows-spec : {M : Type 1} → statement M
 copy-all-rows-spec =
-    tie.close (tie.spec Inv-loop μ-loop sub-rows mul-size loop-holds (λ c. search needs) shared-slice-read-first cast-first (λ c. search needs) (λ c. search needs) shared-slice-read-past cast-past
-    (λ c. search needs) (λ c. search needs) cast-from (λ c. search needs) (λ c. search needs) (λ c. search needs) cast-to
-    mul-begin mul-end mul-copy-row sub-copy-row part-copy-row-start part-copy-row-end
-    mul-copy-row-2 sub-copy-row-2 part-copy-row-start-2 part-copy-row-end-2
-    mul-copy-row-3 sub-copy-row-3 part-copy-row-start-3 part-copy-row-end-3
-    copy-row-requires (λ c. search needs) (λ c. search needs) loop-again (λ c. search needs) returns)
+    tie.close (tie.spec copy-rows-1-requires copy-rows-2-requires copy-rows-3-requires (λ c. search needs) returns (λ c. search needs) returns-2
+    (λ c. search needs) returns-3)

@@ -10,7 +10,7 @@ returns : tie.Need-returns
 returns c =
     let put = c .before .before .before .before .before .before in
     let s = put .before .before .before .before .before .before .before .before .before .before in
-    (put .put .ensures ∙ put-whole (s .args .a-diagonal .now) (s .args .diagonal .now) (s .pre .1), c .before .before .copy-all-rows .ensures)
+    (put .put .ensures ∙ put-whole (s .args .a-diagonal .now) (s .args .diagonal .now) (s .pre .1), c .before .before .copy-entries .ensures)
 
 pub copy-value-spec : {M : Type 1} → statement M
 copy-value-spec = tie.close (tie.spec (λ c κs. search needs) (λ c κs. search needs) (λ c. search needs) (λ c. search needs) returns)
