@@ -1,0 +1,4 @@
+-- What the contracts of the crate cite.
+-- Definitions only.
+pub mod Checks
+pub mod Rooms

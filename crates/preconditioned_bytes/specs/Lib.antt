@@ -1,0 +1,3 @@
+-- What the contracts of the crate cite.
+-- Definitions only.
+pub mod Checks
