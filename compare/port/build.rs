@@ -1,5 +1,5 @@
-// Links the port's static libraries, libhost.a and libfactor_host.a, from the folder that PIERBRAMBLE_STATICLIB names
-// or else from target/staticlib of the repository that this workspace stands in.
+// Links the port's static libraries, libhost.a, libfactor_host.a and libsolver_host.a, from the folder that
+// PIERBRAMBLE_STATICLIB names or else from target/staticlib of the repository that this workspace stands in.
 
 use std::env;
 use std::path::{Path, PathBuf};
@@ -14,7 +14,7 @@ fn default_folder() -> PathBuf {
 }
 
 /// The libraries, each named as its crate is.
-const LIBRARIES: [&str; 2] = ["host", "factor_host"];
+const LIBRARIES: [&str; 3] = ["host", "factor_host", "solver_host"];
 
 /// Links one of them, or says how it is built.
 fn link(folder: &Path, name: &str) {

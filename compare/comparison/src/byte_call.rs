@@ -3,6 +3,7 @@
 
 use port::Outcome;
 
+use crate::answered::Besides;
 use crate::judge::{judge, After, Case, Expected, Given};
 use crate::lent::Lent;
 use crate::list::Line;
@@ -277,7 +278,8 @@ impl ByteCall {
         Expected {
             number: line.number,
             row: line.row,
-            sum: None,
+            besides: Besides::Nothing,
+            end: None,
             after,
         }
     }

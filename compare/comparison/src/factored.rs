@@ -255,6 +255,36 @@ pub fn with_pivots(dim: u32, factor: &Factor, pivots: &[Pivot], random: &mut Ran
     }
 }
 
+/// What the original's copy_value gives the factor of A, whose every entry it has.
+fn copied_by<const NN: usize>(factor: &Factor, a: &Sparse, values: &Words) -> Words {
+    let blocks = |words: &[u64]| words::values_of(words).as_chunks::<NN>().0.to_vec();
+    let matrix = MatrixOwned {
+        num_blk: a.n(),
+        row2idx: wide(&a.offsets),
+        idx2col: wide(&a.columns),
+        idx2val: blocks(&values.entries),
+        row2val: blocks(&values.diagonal),
+    };
+    let mut owned = factor.owned(Values {
+        diagonal: vec![[0.0; NN]; factor.n()],
+        entries: vec![[0.0; NN]; factor.pattern.entries()],
+    });
+    sparse_ilu::copy_value(&mut owned, &matrix);
+    Values {
+        diagonal: owned.row2val,
+        entries: owned.idx2val,
+    }
+    .words()
+}
+
+pub fn copied(dim: u32, factor: &Factor, a: &Sparse, values: &Words) -> Words {
+    match dim {
+        1 => copied_by::<1>(factor, a, values),
+        2 => copied_by::<4>(factor, a, values),
+        _ => copied_by::<9>(factor, a, values),
+    }
+}
+
 /// What the original's decompose leaves of values, whether it comes to the end or not.
 fn decomposed_by<const N: usize, const NN: usize>(factor: &Factor, words: &Words) -> Words {
     let blocks = |words: &[u64]| words::values_of(words).as_chunks::<NN>().0.to_vec();

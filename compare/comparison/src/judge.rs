@@ -1,8 +1,7 @@
 // Holds what the port made of a case to what was expected: the answer, every lent slice, and the bytes beside.
 // Every call is judged here, whatever slices it is lent; a difference is shown with all that was given.
 
-use port::{Outcome, Summed};
-
+use crate::answered::{Answered, Besides};
 use crate::lent::Lent;
 use crate::rules;
 use crate::tally::{Dim, Tally};
@@ -18,52 +17,15 @@ pub enum After {
     Values(Vec<u64>),
     /// These doubles, of a slice that the call reads too: here a NaN may also stay as it was lent.
     Kept(Vec<u64>),
+    /// Its first words are these doubles, and what comes after them is as before. A NaN may stay as it was lent.
+    Begun(Vec<u64>),
 }
 
 impl After {
     fn values(&self) -> Option<&[u64]> {
         match self {
-            After::Values(values) | After::Kept(values) => Some(values),
+            After::Values(values) | After::Kept(values) | After::Begun(values) => Some(values),
             After::Unchanged | After::Bytes(_) => None,
-        }
-    }
-}
-
-/// What a call answered: the number, its row, and the sum if it is a call that gives one.
-#[derive(Clone, Copy)]
-pub struct Answered {
-    pub number: u32,
-    pub row: u32,
-    pub sum: Option<u64>,
-}
-
-impl From<Outcome> for Answered {
-    fn from(outcome: Outcome) -> Answered {
-        Answered {
-            number: outcome.number,
-            row: outcome.row,
-            sum: None,
-        }
-    }
-}
-
-impl From<Summed> for Answered {
-    fn from(summed: Summed) -> Answered {
-        Answered {
-            number: summed.number,
-            row: summed.row,
-            sum: Some(words::word_of(summed.sum)),
-        }
-    }
-}
-
-/// The number alone, as timed calls answer.
-impl From<u32> for Answered {
-    fn from(number: u32) -> Answered {
-        Answered {
-            number,
-            row: 0,
-            sum: None,
         }
     }
 }
@@ -72,8 +34,9 @@ impl From<u32> for Answered {
 pub struct Expected {
     pub number: u32,
     pub row: u32,
-    /// +0 if the call gives a sum and was refused.
-    pub sum: Option<u64>,
+    pub besides: Besides,
+    /// How a solve ends, to be counted.
+    pub end: Option<&'static str>,
     /// For each lent slice, in the order in which they are lent.
     pub after: Vec<After>,
 }
@@ -85,7 +48,8 @@ impl Expected {
         Expected {
             number,
             row: 0,
-            sum: None,
+            besides: Besides::Nothing,
+            end: None,
             after: (0..slices).map(|_| After::Unchanged).collect(),
         }
     }
@@ -115,7 +79,10 @@ pub fn judge(case: &Case, expected: &Expected, got: Answered, tally: &mut Tally)
         count_words(case, words, tally);
     }
     if expected.number == rules::DONE {
-        count_words(case, expected.sum.as_slice(), tally);
+        count_words(case, &expected.besides.values(), tally);
+    }
+    if let Some(end) = expected.end {
+        tally.ended(case.call, case.dim, end, 1);
     }
     if let Some(fault) = fault(case, expected, got) {
         tally.differs(case.call, case.dim, || show(&fault, case, expected, got));
@@ -132,8 +99,10 @@ fn fault(case: &Case, expected: &Expected, got: Answered) -> Option<String> {
     if (got.number, got.row) != (expected.number, expected.row) {
         return Some("another answer".to_string());
     }
-    if got.sum != expected.sum {
-        return Some("another sum".to_string());
+    match (expected.besides, got.besides) {
+        (right, besides) if right == besides => (),
+        (Besides::Sum(_), _) => return Some("another sum".to_string()),
+        _ => return Some("another count, verdict or last number".to_string()),
     }
     let mut slices = case.lent.iter().zip(&expected.after);
     slices.find_map(|(lent, after)| slice_fault(lent, after))
@@ -149,15 +118,27 @@ fn slice_fault(lent: &Lent, after: &After) -> Option<String> {
         After::Unchanged => Some(format!("{name} was changed")),
         After::Bytes(bytes) if lent.bytes() == bytes => None,
         After::Bytes(_) => Some(format!("{name} has other bytes")),
-        After::Values(expected) => values_fault(lent, expected, false),
-        After::Kept(expected) => values_fault(lent, expected, true),
+        After::Values(expected) => values_fault(lent, lent.len(), expected, false),
+        After::Kept(expected) => values_fault(lent, lent.len(), expected, true),
+        After::Begun(expected) => begun_fault(lent, expected),
     }
 }
 
-/// `kept` says whether a NaN may stay as it was lent.
-fn values_fault(lent: &Lent, expected: &[u64], kept: bool) -> Option<String> {
+fn begun_fault(lent: &Lent, expected: &[u64]) -> Option<String> {
+    let (count, name) = (expected.len(), lent.name());
+    if lent.len() < 8 * count {
+        return Some(format!("{name} has no room for {count} words"));
+    }
+    if lent.bytes()[8 * count..] != lent.entry()[8 * count..] {
+        return Some(format!("{name} was changed past its {count} words"));
+    }
+    values_fault(lent, 8 * count, expected, true)
+}
+
+/// Of so many bytes from the first; `kept` says whether a NaN may stay as it was lent.
+fn values_fault(lent: &Lent, bytes: usize, expected: &[u64], kept: bool) -> Option<String> {
     let name = lent.name();
-    let (entry, got) = (words::words_in(lent.entry()), words::words_in(lent.bytes()));
+    let [entry, got] = [lent.entry(), lent.bytes()].map(|slice| words::words_in(&slice[..bytes]));
     if expected.len() != got.len() {
         return Some(format!("{name} has another length"));
     }
@@ -187,9 +168,9 @@ fn show(fault: &str, case: &Case, expected: &Expected, got: Answered) -> String 
         let entry = lent.show(lent.entry());
         lines.push(format!("lent {}: {entry}", lent.name()));
     }
-    let right = show_answer(expected.number, expected.row, expected.sum);
+    let right = show_answer(expected.number, expected.row, expected.besides);
     lines.push(format!("expected: {right}"));
-    let answered = show_answer(got.number, got.row, got.sum);
+    let answered = show_answer(got.number, got.row, got.besides);
     lines.push(format!("got:      {answered}"));
     for (lent, after) in case.lent.iter().zip(&expected.after) {
         if !matches!(after, After::Unchanged) || !lent.unchanged() {
@@ -202,9 +183,8 @@ fn show(fault: &str, case: &Case, expected: &Expected, got: Answered) -> String 
     format!("  {}\n", lines.join("\n  "))
 }
 
-fn show_answer(number: u32, row: u32, sum: Option<u64>) -> String {
-    let sum = sum.map(|sum| format!(", sum {}", words::show_words(&[sum])));
-    format!("number {number}, row {row}{}", sum.unwrap_or_default())
+fn show_answer(number: u32, row: u32, besides: Besides) -> String {
+    format!("number {number}, row {row}{}", besides.show())
 }
 
 fn show_after(lent: &Lent, after: &After) -> String {
@@ -212,5 +192,10 @@ fn show_after(lent: &Lent, after: &After) -> String {
         After::Unchanged => lent.show(lent.entry()),
         After::Bytes(bytes) => lent.show(bytes),
         After::Values(values) | After::Kept(values) => lent.show(&words::bytes_of(values)),
+        After::Begun(values) => {
+            let mut bytes = words::bytes_of(values);
+            bytes.extend(lent.entry().iter().skip(8 * values.len()));
+            lent.show(&bytes)
+        }
     }
 }

@@ -52,6 +52,13 @@ impl Line {
     }
 }
 
+/// A reader without Rust has room for so many words of a line.
+const MOST_WORDS: usize = 123;
+
+pub fn is_short(line: &Line) -> bool {
+    line.inputs.len() + 2 + line.outputs.len() <= MOST_WORDS
+}
+
 fn parse_word(text: &str) -> Option<u64> {
     if text.len() != 16 {
         return None;

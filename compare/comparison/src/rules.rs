@@ -12,6 +12,7 @@ pub const CLEARED: [u32; 2] = [4, 5];
 
 pub const DONE: u32 = 0;
 pub const SIZE: u32 = 1;
+pub const LIMIT: u32 = 10;
 pub const SHAPE: u32 = 2;
 pub const PATTERN: u32 = 3;
 pub const SPLIT: u32 = 11;
@@ -41,6 +42,11 @@ pub fn entries_in_range(entries: usize) -> bool {
 /// "Nodes m of an element: 1 to 8."
 pub fn nodes_in_range(nodes: u128) -> bool {
     (1..=8).contains(&nodes)
+}
+
+/// "Iteration limit: 0 to 4,096."
+pub fn limit_in_range(limit: u32) -> bool {
+    limit <= 4096
 }
 
 /// "N is 1, 2 or 3 values per row."
@@ -96,6 +102,8 @@ pub struct Counts {
     /// The entries of A, where it is lent beside a factor.
     pub entries_of_a: usize,
     pub nodes: usize,
+    /// The limit of a solver's steps.
+    pub limit: u32,
 }
 
 /// How many words a lent slice has to have, by the sentence that begins "Lengths:".
@@ -127,6 +135,10 @@ pub enum Length {
     Nodes,
     /// "Element values m*m*B."
     Element,
+    /// "A history needs at least the limit (plain)."
+    Ratios,
+    /// "Or the limit plus 2 (preconditioned)."
+    Norms,
 }
 
 impl Length {
@@ -152,6 +164,8 @@ impl Length {
             Length::EntriesOfA => Some(block * entries_of_a),
             Length::Nodes => Some(nodes),
             Length::Element => Some(nodes * nodes * block),
+            Length::Ratios => Some(u128::from(counts.limit)),
+            Length::Norms => Some(u128::from(counts.limit) + 2),
         }
     }
 
@@ -160,7 +174,7 @@ impl Length {
             return true;
         };
         match self {
-            Length::RowsOrMore => words >= right,
+            Length::RowsOrMore | Length::Ratios | Length::Norms => words >= right,
             Length::Room => words == right && entries_in_range(words as usize),
             Length::Nodes => words == right && nodes_in_range(words),
             _ => words == right,
@@ -356,6 +370,29 @@ pub fn entry_pairs_of_blkcsr(rows: &[u32], cols: &[u32]) -> Vec<(u32, u32)> {
     pairs.map(|(row, col)| (row.1, col.1)).collect()
 }
 
+/// The verdicts of "Pan verdict", as the port's entry points number them.
+pub const EMPTY: u32 = 1;
+pub const SETTLED: u32 = 2;
+pub const UNSETTLED: u32 = 3;
+
+/// "Preconditioned: count 1 is Empty, limit + 2 is Unsettled, else Settled."
+pub fn verdict_of_norms(count: usize, limit: u32) -> u32 {
+    match count {
+        1 => EMPTY,
+        _ if count as u64 == u64::from(limit) + 2 => UNSETTLED,
+        _ => SETTLED,
+    }
+}
+
+/// "Plain: count 0 is Empty; else Settled if the last ratio is below the tolerance, else Unsettled."
+pub fn verdict_of_ratios(ratios: &[f64], tolerance: f64) -> u32 {
+    match ratios.last() {
+        None => EMPTY,
+        Some(&last) if last < tolerance => SETTLED,
+        Some(_) => UNSETTLED,
+    }
+}
+
 #[cfg(test)]
 mod tests {
     use super::*;
@@ -426,6 +463,28 @@ mod tests {
         };
         assert!(Length::Room.allows(65_535, &counts(65_535)));
         assert!(!Length::Room.allows(65_536, &counts(65_536)));
+    }
+
+    #[test]
+    fn histories() {
+        let counts = |limit| Counts {
+            dim: 1,
+            limit,
+            ..Counts::default()
+        };
+        assert!(Length::Ratios.allows(5, &counts(5)) && Length::Ratios.allows(6, &counts(5)));
+        assert!(!Length::Norms.allows(6, &counts(5)) && Length::Norms.allows(7, &counts(5)));
+        assert!(limit_in_range(4096) && !limit_in_range(4097));
+        // 01's cases 10 and 11.
+        assert_eq!(
+            [2, 1].map(|count| verdict_of_norms(count, 5)),
+            [SETTLED, EMPTY]
+        );
+        assert_eq!(verdict_of_norms(2, 0), UNSETTLED);
+        assert_eq!(verdict_of_ratios(&[0.5], 0.5), UNSETTLED);
+        assert_eq!(verdict_of_ratios(&[0.5, 0.25], 0.5), SETTLED);
+        assert_eq!(verdict_of_ratios(&[f64::NAN], 0.5), UNSETTLED);
+        assert_eq!(verdict_of_ratios(&[], f64::INFINITY), EMPTY);
     }
 
     #[test]

@@ -71,6 +71,21 @@ impl Sparse {
         Sparse::of_rows(&rows)
     }
 
+    /// With the entry (j, i) for each entry (i, j), in sorted rows.
+    pub fn both_ways(&self) -> Sparse {
+        let mut rows: Vec<Vec<u32>> = (0..self.n())
+            .map(|i| self.columns[self.places(i)].to_vec())
+            .collect();
+        for i in 0..self.n() {
+            for &j in &self.columns[self.places(i)] {
+                if !rows[j as usize].contains(&(i as u32)) {
+                    rows[j as usize].push(i as u32);
+                }
+            }
+        }
+        Sparse::of_rows(&rows).sorted()
+    }
+
     /// Without the entry (row, column).
     pub fn without(&self, row: u32, column: u32) -> Sparse {
         let keep = |i: usize| {

@@ -36,6 +36,8 @@ impl fmt::Display for Dim {
 struct Counts {
     /// How often each answer was given; one that can occur stands here with 0 until it does.
     answers: BTreeMap<u32, u64>,
+    /// How often a solve ended so, likewise, in the order in which they were named.
+    ends: Vec<(&'static str, u64)>,
     words: u64,
     nans: u64,
     differences: u64,
@@ -75,6 +77,22 @@ impl Tally {
         *self.row(call, dim).answers.entry(number).or_insert(0) += cases;
     }
 
+    /// Says that a solve can end so: the run fails if none does.
+    pub fn can_end(&mut self, call: &'static str, dim: Dim, ends: &[&'static str]) {
+        for &end in ends {
+            self.ended(call, dim, end, 0);
+        }
+    }
+
+    /// Counts solves that ended so.
+    pub fn ended(&mut self, call: &'static str, dim: Dim, end: &'static str, cases: u64) {
+        let ends = &mut self.row(call, dim).ends;
+        match ends.iter_mut().find(|(name, _)| *name == end) {
+            Some((_, count)) => *count += cases,
+            None => ends.push((end, cases)),
+        }
+    }
+
     /// Counts words that were compared, and how many of them were to be a NaN.
     pub fn compared(&mut self, call: &'static str, dim: Dim, words: u64, nans: u64) {
         let row = self.row(call, dim);
@@ -100,14 +118,21 @@ impl Tally {
         all.sum()
     }
 
-    /// Calls with an N and an answer that can occur and did not.
+    /// Calls with an N and an answer, or an end of a solve, that can occur and did not.
     pub fn missing(&self) -> Vec<String> {
         let mut missing = Vec::new();
         for key in &self.order {
-            for (number, &cases) in &self.rows[key].answers {
-                if cases == 0 {
-                    missing.push(format!("{}, N = {}: {number} did not occur", key.0, key.1));
-                }
+            let row = &self.rows[key];
+            let answers = row
+                .answers
+                .iter()
+                .map(|(no, &cases)| (no.to_string(), cases));
+            let ends = row
+                .ends
+                .iter()
+                .map(|&(end, cases)| (end.to_string(), cases));
+            for (what, _) in answers.chain(ends).filter(|(_, cases)| *cases == 0) {
+                missing.push(format!("{}, N = {}: {what} did not occur", key.0, key.1));
             }
         }
         missing
@@ -136,5 +161,37 @@ impl Tally {
                 answers.join(", ")
             );
         }
+        self.print_ends();
+    }
+
+    fn print_ends(&self) {
+        println!("{:<41} {:>5}  cases by end", "solver", "N");
+        for key in &self.order {
+            let ends = self.rows[key].ends.iter();
+            let ends: Vec<String> = ends.map(|(end, cases)| format!("{end}: {cases}")).collect();
+            if !ends.is_empty() {
+                println!(
+                    "{:<41} {:>5}  {}",
+                    key.0,
+                    key.1.to_string(),
+                    ends.join(", ")
+                );
+            }
+        }
+    }
+}
+
+#[cfg(test)]
+mod tests {
+    use super::*;
+
+    #[test]
+    fn what_has_not_occurred_is_missing() {
+        let mut tally = Tally::new();
+        tally.can_answer("solve", Dim::Is(1), &[0]);
+        tally.can_end("solve", Dim::Is(1), &["Empty", "Settled"]);
+        tally.answered("solve", Dim::Is(1), 0, 1);
+        tally.ended("solve", Dim::Is(1), "Settled", 1);
+        assert_eq!(tally.missing(), ["solve, N = 1: Empty did not occur"]);
     }
 }

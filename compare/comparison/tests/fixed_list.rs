@@ -45,7 +45,7 @@ fn all_lines() -> Vec<Line> {
 #[test]
 fn the_list_has_every_call_and_answer() {
     let lines = all_lines();
-    assert!((1200..1500).contains(&lines.len()), "{} lines", lines.len());
+    assert!((1500..1900).contains(&lines.len()), "{} lines", lines.len());
     let has = |call: &str, dim: u32, number: u32| {
         let mut lines = lines.iter();
         lines.any(|line| (line.call.as_str(), line.dim, line.number) == (call, dim, number))
@@ -79,6 +79,37 @@ fn the_list_has_every_call_and_answer() {
             }
         }
         assert!(has("copy_value", dim, 8) && has("decompose", dim, 9));
+        for number in [0, 1, 10, 2, 3] {
+            assert!(has(PLAIN, dim, number), "{PLAIN} {dim} {number}");
+        }
+        for number in [0, 1, 10, 2, 3, 11] {
+            assert!(
+                has(PRECONDITIONED, dim, number),
+                "{PRECONDITIONED} {dim} {number}"
+            );
+        }
+    }
+}
+
+const PLAIN: &str = "conjugate_gradient";
+const PRECONDITIONED: &str = "preconditioned_conjugate_gradient";
+
+/// The second output of a solver is its verdict.
+#[test]
+fn the_list_has_every_verdict() {
+    let lines = all_lines();
+    for call in [PLAIN, PRECONDITIONED] {
+        for dim in 1..=3 {
+            for verdict in 1..=3 {
+                let mut lines = lines.iter();
+                assert!(
+                    lines.any(|line| (line.call.as_str(), line.dim) == (call, dim)
+                        && line.number == 0
+                        && line.outputs[1] == verdict),
+                    "{call} {dim}: {verdict}"
+                );
+            }
+        }
     }
 }
 

@@ -508,3 +508,196 @@ fn decompose_does_not_say_where_it_stops() {
     assert!(at_row_0.is_err() && at_row_0 == at_row_1);
     assert_eq!(factor.row2val, [[0.5], [0.0]]);
 }
+
+/// A's factor, filled with its diagonal alone.
+fn factor_of_diagonal(matrix: &MatrixOwned<[f64; 1]>) -> Preconditioner<[f64; 1]> {
+    let mut alone = MatrixOwned::from_vtx2vtx(&vec![0; matrix.num_blk + 1], &[]);
+    alone.row2val.copy_from_slice(&matrix.row2val);
+    factor_of::<1, 1>(&alone)
+}
+
+/// What a preconditioned run leaves: r, x and its norms.
+fn preconditioned(
+    matrix: &MatrixOwned<[f64; 1]>,
+    factor: &Preconditioner<[f64; 1]>,
+    right_side: &[f64],
+    tolerance: f64,
+    limit: usize,
+) -> [Vec<f64>; 3] {
+    let mut r: Vec<[f64; 1]> = right_side.iter().map(|&b| [b]).collect();
+    let (mut x, mut pr, mut p) = (Vec::new(), Vec::new(), Vec::new());
+    let norms = cg::preconditioned_conjugate_gradient::<f64, 1, 1>(
+        &mut r, &mut x, &mut pr, &mut p, tolerance, limit, matrix, factor,
+    );
+    [r.as_flattened().to_vec(), x.as_flattened().to_vec(), norms]
+}
+
+/// The same of a plain run: r, u and its ratios.
+fn plain(
+    matrix: &MatrixOwned<[f64; 1]>,
+    right_side: &[f64],
+    tolerance: f64,
+    limit: usize,
+) -> [Vec<f64>; 3] {
+    let mut r: Vec<[f64; 1]> = right_side.iter().map(|&b| [b]).collect();
+    let zeros = vec![[0.0]; r.len()];
+    let (mut u, mut ap, mut p) = (zeros.clone(), zeros.clone(), zeros);
+    let ratios = cg::conjugate_gradient::<f64, 1, 1>(
+        &mut r,
+        &mut u,
+        &mut ap,
+        &mut p,
+        tolerance,
+        limit,
+        matrix.as_ref(),
+    );
+    [r.as_flattened().to_vec(), u.as_flattened().to_vec(), ratios]
+}
+
+/// Rows (2, 1) and (1, 4).
+fn two_rows() -> MatrixOwned<[f64; 1]> {
+    let mut matrix = MatrixOwned::from_vtx2vtx(&[0, 1, 2], &[1, 0]);
+    matrix.row2val = vec![[2.0], [4.0]];
+    matrix.idx2val = vec![[1.0], [1.0]];
+    matrix
+}
+
+fn bits(values: &[f64]) -> Vec<u64> {
+    values.iter().map(|value| value.to_bits()).collect()
+}
+
+/// The least number above 0.
+const LEAST: f64 = f64::from_bits(1);
+
+/// A squared norm that overflows makes every later ratio 0: two norms of a run with limit 5 are Settled by 01, at
+/// whatever tolerance above 0, with half of the right side not yet solved for.
+#[test]
+fn an_overflowing_norm_settles_a_run_at_its_first_step() {
+    let matrix = two_rows();
+    let factor = factor_of_diagonal(&matrix);
+    let [r, x, norms] = preconditioned(&matrix, &factor, &[two_to(512), 0.0], LEAST, 5);
+    assert_eq!(norms, [f64::INFINITY, two_to(511)]);
+    assert_eq!(r, [0.0, -two_to(511)]);
+    assert_eq!(x, [two_to(511), 0.0]);
+    // With half of that right side nothing overflows, and the run goes on until it has solved the system.
+    let [r, x, norms] = preconditioned(&matrix, &factor, &[two_to(511), 0.0], LEAST, 5);
+    assert_eq!(norms, [two_to(511), two_to(510), 0.0]);
+    assert_eq!(r, [0.0, 0.0]);
+    assert_eq!(bits(&x), [0x5FD2_4924_9249_2492, 0xDFB2_4924_9249_2492]);
+    // The plain run does not settle: its alpha is infinite or a NaN.
+    let [_, _, ratios] = plain(&matrix, &[two_to(512), 0.0], LEAST, 5);
+    assert!(ratios.len() == 5 && ratios.iter().all(|ratio| ratio.is_nan()));
+}
+
+/// The same with A's own factor: without fill it is not exact from three rows on.
+#[test]
+fn an_overflowing_norm_settles_a_run_with_its_own_factor() {
+    let mut matrix = MatrixOwned::<[f64; 1]>::from_vtx2vtx(&[0, 2, 3, 4], &[1, 2, 0, 0]);
+    matrix.row2val = vec![[2.0]; 3];
+    matrix.idx2val = vec![[1.0]; 4];
+    let factor = factor_of::<1, 1>(&matrix);
+    let [r, _, norms] = preconditioned(&matrix, &factor, &[0.0, two_to(512), 0.0], LEAST, 5);
+    // A third of the right side's norm, 0x1.5555555555555p+510, is left.
+    assert_eq!(bits(&norms), [0x7FF0_0000_0000_0000, 0x5FD5_5555_5555_5555]);
+    assert_eq!(bits(&r), [0, 0, 0x5FD5_5555_5555_5555]);
+}
+
+/// The residual decides, and not the solution: u = 2^1040 overflows, and the run is Settled by 01.
+#[test]
+fn a_settled_solution_may_be_infinite() {
+    let mut matrix = identity::<1, 1>(1);
+    matrix.row2val[0] = [two_to(-1000)];
+    let [r, u, ratios] = plain(&matrix, &[two_to(40)], 0.5, 5);
+    assert_eq!((r, u, ratios), (vec![0.0], vec![f64::INFINITY], vec![0.0]));
+}
+
+/// A NaN is not below epsilon, and no ratio of it is below a tolerance: all steps are taken, and 01's verdict is
+/// Unsettled. So it is with an infinity.
+#[test]
+fn a_right_side_that_is_not_finite_takes_all_steps() {
+    let matrix = identity::<1, 1>(1);
+    let factor = factor_of::<1, 1>(&matrix);
+    for b in [f64::NAN, f64::INFINITY] {
+        let [_, x, norms] = preconditioned(&matrix, &factor, &[b], f64::INFINITY, 3);
+        assert!(norms.len() == 5 && norms[1..].iter().all(|norm| norm.is_nan()));
+        assert!(x[0].is_nan());
+        let [_, u, ratios] = plain(&matrix, &[b], f64::INFINITY, 3);
+        assert!(ratios.len() == 3 && ratios.iter().all(|ratio| ratio.is_nan()));
+        assert!(u[0].is_nan());
+    }
+}
+
+/// A plain history is empty below epsilon and at limit 0 alike: by 01's verdict both are Empty, whatever stands on
+/// the pan. At limit 0 the preconditioned one has two norms, and is Unsettled.
+#[test]
+fn a_plain_history_is_empty_at_limit_0() {
+    let matrix = two_rows();
+    let [r, u, ratios] = plain(&matrix, &[8.0, 12.0], 0.5, 0);
+    assert!(ratios.is_empty());
+    assert_eq!((r, u), (vec![8.0, 12.0], vec![0.0, 0.0]));
+    let factor = factor_of::<1, 1>(&matrix);
+    assert_eq!(
+        preconditioned(&matrix, &factor, &[3.0, 4.0], 0.5, 0)[2],
+        [5.0, 5.0]
+    );
+}
+
+#[test]
+fn a_solver_takes_any_limit() {
+    let matrix = two_rows();
+    let factor = factor_of::<1, 1>(&matrix);
+    assert_eq!(plain(&matrix, &[8.0, 12.0], 0.0, 5000)[2].len(), 5000);
+    assert_eq!(
+        preconditioned(&matrix, &factor, &[8.0, 12.0], 0.0, 5000)[2].len(),
+        5002
+    );
+}
+
+/// The preconditioned solver makes x, Pr and p as long as r.
+#[test]
+fn the_preconditioned_solver_takes_vectors_of_any_length() {
+    let matrix = two_rows();
+    let factor = factor_of::<1, 1>(&matrix);
+    let (mut x, mut pr, mut p) = (vec![[7.0]; 5], vec![[7.0]], Vec::new());
+    let mut r = [[8.0], [12.0]];
+    cg::preconditioned_conjugate_gradient::<f64, 1, 1>(
+        &mut r, &mut x, &mut pr, &mut p, 0.5, 5, &matrix, &factor,
+    );
+    assert_eq!([x.len(), pr.len(), p.len()], [2; 3]);
+}
+
+/// Below epsilon the original looks at nothing more: not at the other vectors, nor at the factor.
+#[test]
+fn below_epsilon_lengths_do_not_matter() {
+    let matrix = two_rows();
+    let (mut r, mut u) = ([[0.0]; 2], [[7.0]; 3]);
+    let ratios = cg::conjugate_gradient::<f64, 1, 1>(
+        &mut r,
+        &mut u,
+        &mut [],
+        &mut [],
+        0.5,
+        5,
+        matrix.as_ref(),
+    );
+    assert!(ratios.is_empty());
+    assert_eq!(u, [[0.0]; 3]);
+    let none = Preconditioner::new();
+    assert_eq!(
+        preconditioned(&matrix, &none, &[0.0, 0.0], 0.5, 5)[2],
+        [0.0]
+    );
+    assert!(panics(|| {
+        preconditioned(&matrix, &none, &[8.0, 12.0], 0.5, 5);
+    }));
+}
+
+/// Rows of a factor need not be sorted for it, as long as the lower entries come first.
+#[test]
+fn a_solver_takes_a_factor_with_an_unsorted_row() {
+    let matrix = MatrixOwned::<[f64; 1]>::from_vtx2vtx(&[0, 2, 2, 2], &[1, 2]);
+    let mut factor = factor_with(&[0, 2, 2, 2], &[2, 1], &[0, 2, 2]);
+    factor.row2val = vec![[1.0]; 3];
+    let norms = &preconditioned(&matrix, &factor, &[1.0, 0.0, 0.0], 0.5, 0)[2];
+    assert_eq!(norms, &[1.0, 1.0]);
+}

@@ -284,3 +284,20 @@ wrap! {
     /// `solve_preconditioning_vec` without any check.
     unchecked_solve_preconditioning_vec => pierbramble_unchecked_solve_preconditioning_vec(take dim: u32, write vec: f64, read offsets: u32, read columns: u32, read splits: u32, read diagonal: f64, read values: f64)
 }
+wrap! {
+    /// The solver of A*u = r. r is left as the residual; `history` has a ratio for each step.
+    conjugate_gradient => pierbramble_conjugate_gradient(take dim: u32, write r: u8, write u: u8, write ap: u8, write p: u8, take tolerance: f64, take limit: u32, read offsets: u8, read columns: u8, read values: u8, read diagonal: u8, write history: u8) -> Solved
+}
+wrap! {
+    /// The same with a factor, which need not be A's. `starts`, `entries`, `a_values` and `a_diagonal` are A's, the
+    /// next five the factor's; `history` has norms.
+    preconditioned_conjugate_gradient => pierbramble_preconditioned_conjugate_gradient(take dim: u32, write r: u8, write x: u8, write pr: u8, write p: u8, take tolerance: f64, take limit: u32, read starts: u8, read entries: u8, read a_values: u8, read a_diagonal: u8, read offsets: u8, read columns: u8, read splits: u8, read diagonal: u8, read values: u8, write history: u8) -> Solved
+}
+wrap! {
+    /// `conjugate_gradient` on values.
+    timed_conjugate_gradient => pierbramble_timed_conjugate_gradient(take dim: u32, write r: f64, write u: f64, write ap: f64, write p: f64, take tolerance: f64, take limit: u32, read offsets: u32, read columns: u32, read values: f64, read diagonal: f64, write history: f64) -> Solved
+}
+wrap! {
+    /// `preconditioned_conjugate_gradient` on values.
+    timed_preconditioned_conjugate_gradient => pierbramble_timed_preconditioned_conjugate_gradient(take dim: u32, write r: f64, write x: f64, write pr: f64, write p: f64, take tolerance: f64, take limit: u32, read starts: u32, read entries: u32, read a_values: f64, read a_diagonal: f64, read offsets: u32, read columns: u32, read splits: u32, read diagonal: f64, read values: f64, write history: f64) -> Solved
+}

@@ -1,4 +1,5 @@
-// The port's C entry points, in the order of its crate `host`. This is the only place that declares them.
+// The port's C entry points, in the order of its crates `host`, `factor_host` and `solver_host`. This is the only
+// place that declares them.
 // A lent slice is a pointer and a count of elements: bytes for `u8`, values for `f64`, words for `u32`, `i32` and `u16`.
 
 /// Document 01's number, 0 for done, and the row of number 9.
@@ -16,6 +17,19 @@ pub struct Summed {
     pub number: u32,
     pub row: u32,
     pub sum: f64,
+}
+
+/// What a solve answers. After a refusal the last three are 0, `last` as +0.
+#[repr(C)]
+#[derive(Clone, Copy, Debug)]
+pub struct Solved {
+    pub number: u32,
+    /// How many numbers of the history are written.
+    pub count: u32,
+    /// 1 Empty, 2 Settled, 3 Unsettled.
+    pub verdict: u32,
+    /// The last of them, +0 if there is none.
+    pub last: f64,
 }
 
 #[rustfmt::skip]
@@ -83,4 +97,8 @@ extern "C" {
     pub(crate) fn pierbramble_unchecked_copy_value(dim: u32, starts: *const u32, starts_count: usize, entries: *const u32, entries_count: usize, a_diagonal: *const f64, a_diagonal_count: usize, a_values: *const f64, a_values_count: usize, offsets: *const u32, offsets_count: usize, columns: *const u32, columns_count: usize, diagonal: *mut f64, diagonal_count: usize, values: *mut f64, values_count: usize);
     pub(crate) fn pierbramble_unchecked_decompose(dim: u32, offsets: *const u32, offsets_count: usize, columns: *const u32, columns_count: usize, splits: *const u32, splits_count: usize, diagonal: *mut f64, diagonal_count: usize, values: *mut f64, values_count: usize) -> usize;
     pub(crate) fn pierbramble_unchecked_solve_preconditioning_vec(dim: u32, vec: *mut f64, vec_count: usize, offsets: *const u32, offsets_count: usize, columns: *const u32, columns_count: usize, splits: *const u32, splits_count: usize, diagonal: *const f64, diagonal_count: usize, values: *const f64, values_count: usize);
+    pub(crate) fn pierbramble_conjugate_gradient(dim: u32, r: *mut u8, r_count: usize, u: *mut u8, u_count: usize, ap: *mut u8, ap_count: usize, p: *mut u8, p_count: usize, tolerance: f64, limit: u32, offsets: *const u8, offsets_count: usize, columns: *const u8, columns_count: usize, values: *const u8, values_count: usize, diagonal: *const u8, diagonal_count: usize, history: *mut u8, history_count: usize) -> Solved;
+    pub(crate) fn pierbramble_preconditioned_conjugate_gradient(dim: u32, r: *mut u8, r_count: usize, x: *mut u8, x_count: usize, pr: *mut u8, pr_count: usize, p: *mut u8, p_count: usize, tolerance: f64, limit: u32, starts: *const u8, starts_count: usize, entries: *const u8, entries_count: usize, a_values: *const u8, a_values_count: usize, a_diagonal: *const u8, a_diagonal_count: usize, offsets: *const u8, offsets_count: usize, columns: *const u8, columns_count: usize, splits: *const u8, splits_count: usize, diagonal: *const u8, diagonal_count: usize, values: *const u8, values_count: usize, history: *mut u8, history_count: usize) -> Solved;
+    pub(crate) fn pierbramble_timed_conjugate_gradient(dim: u32, r: *mut f64, r_count: usize, u: *mut f64, u_count: usize, ap: *mut f64, ap_count: usize, p: *mut f64, p_count: usize, tolerance: f64, limit: u32, offsets: *const u32, offsets_count: usize, columns: *const u32, columns_count: usize, values: *const f64, values_count: usize, diagonal: *const f64, diagonal_count: usize, history: *mut f64, history_count: usize) -> Solved;
+    pub(crate) fn pierbramble_timed_preconditioned_conjugate_gradient(dim: u32, r: *mut f64, r_count: usize, x: *mut f64, x_count: usize, pr: *mut f64, pr_count: usize, p: *mut f64, p_count: usize, tolerance: f64, limit: u32, starts: *const u32, starts_count: usize, entries: *const u32, entries_count: usize, a_values: *const f64, a_values_count: usize, a_diagonal: *const f64, a_diagonal_count: usize, offsets: *const u32, offsets_count: usize, columns: *const u32, columns_count: usize, splits: *const u32, splits_count: usize, diagonal: *const f64, diagonal_count: usize, values: *const f64, values_count: usize, history: *mut f64, history_count: usize) -> Solved;
 }

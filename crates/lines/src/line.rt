@@ -57,7 +57,7 @@ pub fn place(words: [u64; 128], first: usize, k: usize) -> usize {
     let mut at = first;
     let mut i = 0;
     while i < k {
-        if i >= 9 {
+        if i >= 14 {
             return 128;
         }
         at += count_at(words, i);

@@ -6,15 +6,15 @@ ghost use mathlib.Core.Path.{_≡_};
 ghost use lib.ListN.{length};
 
 // Room for the list. Only its length is promised, so that no proof counts the zeros.
-fn room() -> [u8; 1048576]
-    ensures { λ r. ⌜ 1048576 ≡ length r ⌝ }
+fn room() -> [u8; 1572864]
+    ensures { λ r. ⌜ 1572864 ≡ length r ⌝ }
 {
-    [0; 1048576]
+    [0; 1572864]
 }
 
 fn warn_if_full(length: usize) {
-    if length == 1048576 {
-        io::write_all(1, b"input: 1048576 bytes or more, its end was not read\n");
+    if length == 1572864 {
+        io::write_all(1, b"input: 1572864 bytes or more, its end was not read\n");
     }
 }
 

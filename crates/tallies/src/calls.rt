@@ -1,10 +1,13 @@
 // The calls of the list, in the list's order: first those on blocks and numbers, which the crate `block_lines` runs.
-// The calls on slices of any length are run by the crates `plate_lines`, `fill_lines` and `factor_lines`; their numbers come after.
+// The calls on slices of any length are run by the crates `plate_lines`, `fill_lines`, `factor_lines` and `solver_lines`; their numbers come after.
 use crate::case::Case;
 use texts::Text;
 
 // How many calls the list has; a name that is none has this number.
-pub const CALLS: usize = 33;
+pub const CALLS: usize = 35;
+
+// The first of the solvers.
+const SOLVERS: usize = 33;
 
 pub fn index_of(name: &[u8]) -> usize {
     let call = block_lines::index_of(name);
@@ -19,7 +22,11 @@ pub fn index_of(name: &[u8]) -> usize {
     if third < fill_lines::CALLS {
         return block_lines::CALLS + plate_lines::CALLS + third;
     }
-    block_lines::CALLS + plate_lines::CALLS + fill_lines::CALLS + factor_lines::index_of(name)
+    let fourth = factor_lines::index_of(name);
+    if fourth < factor_lines::CALLS {
+        return block_lines::CALLS + plate_lines::CALLS + fill_lines::CALLS + fourth;
+    }
+    SOLVERS + solver_lines::index_of(name)
 }
 
 pub fn name_of(call: usize) -> Text {
@@ -34,13 +41,20 @@ pub fn name_of(call: usize) -> Text {
     if third < fill_lines::CALLS {
         return fill_lines::name_of(third);
     }
-    factor_lines::name_of(third - fill_lines::CALLS)
+    let fourth = third - fill_lines::CALLS;
+    if fourth < factor_lines::CALLS {
+        return factor_lines::name_of(fourth);
+    }
+    solver_lines::name_of(fourth - factor_lines::CALLS)
 }
 
 // Whether a line of the call has so many words.
 pub fn fits(call: usize, dim: u32, words: [u64; 128], count: usize) -> bool {
     if call >= CALLS {
         return false;
+    }
+    if call >= SOLVERS {
+        return count == solver_lines::words_of(call - SOLVERS, words);
     }
     if call >= block_lines::CALLS {
         return count == lines::length::words_of(call - block_lines::CALLS, words);
@@ -63,5 +77,9 @@ pub fn agrees(case: Case) -> bool {
     if third < fill_lines::CALLS {
         return fill_lines::agrees(third, words);
     }
-    factor_lines::agrees(third - fill_lines::CALLS, dim, words)
+    let fourth = third - fill_lines::CALLS;
+    if fourth < factor_lines::CALLS {
+        return factor_lines::agrees(fourth, dim, words);
+    }
+    solver_lines::agrees(fourth - factor_lines::CALLS, dim, words)
 }

@@ -3,17 +3,17 @@
 ghost use Prim.Native.Nat.{_<_};
 
 pub struct Tally {
-    pub cases: [u64; 33],
-    pub wrong: [u64; 33],
+    pub cases: [u64; 35],
+    pub wrong: [u64; 35],
     pub malformed: u64,
     pub first_wrong: u64,
     pub first_malformed: u64,
 }
 
 // The counts with one more at a call, if there is such a call.
-fn one_more(counts: [u64; 33], call: usize) -> [u64; 33] {
+fn one_more(counts: [u64; 35], call: usize) -> [u64; 35] {
     let mut more = counts;
-    if call < 33 {
+    if call < 35 {
         more[call] = std::num::wrapping_add_u64(more[call], 1);
     }
     more
@@ -27,8 +27,8 @@ fn first_of_both(kept: u64, number: u64) -> u64 {
 impl Tally {
     pub fn new() -> Self {
         Tally {
-            cases: [0u64; 33],
-            wrong: [0u64; 33],
+            cases: [0u64; 35],
+            wrong: [0u64; 35],
             malformed: 0,
             first_wrong: 0,
             first_malformed: 0,

@@ -13,6 +13,7 @@ use comparison::timed::blocks::BLOCKS;
 use comparison::timed::factors::FACTORS;
 use comparison::timed::fills::FILLS;
 use comparison::timed::plates::PLATES;
+use comparison::timed::solvers::SOLVERS;
 use comparison::timed::{ordinary, Inputs, Side, Timed};
 use comparison::words;
 
@@ -23,7 +24,7 @@ struct Section {
     times: &'static str,
 }
 
-const SECTIONS: [Section; 4] = [
+const SECTIONS: [Section; 5] = [
     Section {
         calls: BLOCKS,
         columns: "by count of blocks (values for the root)",
@@ -44,6 +45,11 @@ const SECTIONS: [Section; 4] = [
         columns: "by rows of a plate whose factor is filled to level k (at k = 2 the last is of 3,600 rows, so that 14 is linear)",
         times: "Nanoseconds for a row",
     },
+    Section {
+        calls: SOLVERS,
+        columns: "by rows of a plate whose factor is filled to level k (at k = 2 the last is of 3,600 rows, so that 14 is linear)",
+        times: "Nanoseconds for a row, of a whole solve",
+    },
 ];
 
 const SIZES: [usize; 4] = [64, 256, 1024, 4096];
@@ -56,6 +62,10 @@ const GROWTH: (usize, usize) = (1, 3);
 const RUNS: usize = 41;
 const ROUNDS: usize = 7;
 const ROUNDS_VARIABLE: &str = "BENCH_ROUNDS";
+
+/// A side has fewer runs in a round, but no fewer than the least, where all of them would take longer than this.
+const ROUND_TIME: Duration = Duration::from_millis(80);
+const LEAST_RUNS: usize = 5;
 
 /// A run repeats its call until it takes about this long.
 const RUN_TIME: Duration = Duration::from_micros(100);
@@ -95,7 +105,7 @@ impl Buffers {
 
     /// Seconds of one call, over `repeats` calls.
     fn seconds(&mut self, side: Side, repeats: usize) -> f64 {
-        if self.inputs.factor.is_some() {
+        if self.inputs.is_changed() {
             return self.seconds_by_itself(side, repeats);
         }
         let start = Instant::now();
@@ -109,9 +119,7 @@ impl Buffers {
     fn seconds_by_itself(&mut self, side: Side, repeats: usize) -> f64 {
         let mut spent = Duration::ZERO;
         for _ in 0..repeats {
-            if let Some(factor) = &mut self.inputs.factor {
-                factor.restore();
-            }
+            self.inputs.restore();
             let start = Instant::now();
             self.call(side);
             spent += start.elapsed();
@@ -149,6 +157,12 @@ impl Runs {
         }
     }
 
+    /// How many runs a round has time for.
+    fn runs(&self, buffers: &mut Buffers) -> usize {
+        let time = buffers.seconds(self.side, self.repeats) * self.repeats as f64;
+        ((ROUND_TIME.as_secs_f64() / time) as usize).clamp(LEAST_RUNS, RUNS)
+    }
+
     fn warm(&self, buffers: &mut Buffers) {
         buffers.seconds(self.side, self.repeats);
     }
@@ -166,6 +180,8 @@ struct Row {
     buffers: Buffers,
     port: Runs,
     rust: Option<Runs>,
+    /// Of each side in a round.
+    runs: usize,
 }
 
 impl Row {
@@ -192,12 +208,15 @@ impl Row {
             "{}, N = {dim}: the sides differ",
             timed.name
         );
+        let port = Runs::new(timed.port, &mut buffers);
+        let rust = timed.rust.map(|rust| Runs::new(rust, &mut buffers));
         Row {
             timed,
             dim,
             size,
-            port: Runs::new(timed.port, &mut buffers),
-            rust: timed.rust.map(|rust| Runs::new(rust, &mut buffers)),
+            runs: port.runs(&mut buffers),
+            port,
+            rust,
             buffers,
         }
     }
@@ -208,11 +227,11 @@ impl Row {
         buffers.apart = APART * round;
         self.port.warm(buffers);
         let Some(rust) = &mut self.rust else {
-            (0..RUNS).for_each(|_| self.port.run(buffers));
+            (0..self.runs).for_each(|_| self.port.run(buffers));
             return;
         };
         rust.warm(buffers);
-        for turn in 0..RUNS {
+        for turn in 0..self.runs {
             if turn % 2 == 0 {
                 self.port.run(buffers);
                 rust.run(buffers);
@@ -274,8 +293,9 @@ fn measure() {
     eprintln!();
     println!("Date: {}. Processor: {}.", today(), processor());
     println!(
-        "Medians of {} runs of each side, interleaved.",
-        rounds * RUNS
+        "Medians of {} runs of each side, interleaved; of a call that takes long, of at least {}.",
+        rounds * RUNS,
+        rounds * LEAST_RUNS
     );
     for (section, lines) in SECTIONS.iter().zip(&sections) {
         print_tables(section, lines);
@@ -317,6 +337,22 @@ fn print_tables(section: &Section, lines: &[Line]) {
     for line in lines {
         print_times(line);
     }
+    if lines.iter().any(|line| line.steps().is_some()) {
+        print_steps(lines);
+    }
+}
+
+fn print_steps(lines: &[Line]) {
+    println!();
+    println!("Steps of a solve:");
+    println!();
+    println!("| call | N | 64 | 256 | 1,024 | 4,096 |");
+    println!("|---|---|---|---|---|---|");
+    for line in lines {
+        if let Some(steps) = line.steps() {
+            println!("| {} | {} |", line.name(), steps.join(" | "));
+        }
+    }
 }
 
 impl Line {
@@ -327,6 +363,15 @@ impl Line {
             rust: row.rust.as_ref().map(median),
         };
         self.rows.iter().map(|row| row.as_ref().map(each)).collect()
+    }
+
+    /// How many steps its solves take at each size, if they are solves.
+    fn steps(&self) -> Option<Vec<String>> {
+        let steps = |row: &Option<Row>| row.as_ref().and_then(|row| row.buffers.inputs.steps);
+        let steps: Vec<Option<usize>> = self.rows.iter().map(steps).collect();
+        let shown = |steps: &Option<usize>| steps.map_or("-".to_string(), |n| n.to_string());
+        let any = steps.iter().any(Option::is_some);
+        any.then(|| steps.iter().map(shown).collect())
     }
 
     /// The call and its N, as the first two fields of a table's line.

@@ -23,6 +23,9 @@ fn header(count: usize) -> Vec<String> {
         "their numbers and slices in order, also those that are only written, as they stood before. The".into(),
         "outputs are the slices that are written, as they stand after the call: after a refusal as before it,".into(),
         "after number 4 all words 0. A sum is 0 after a refusal.".into(),
+        "A solver has three words before its slices: the count of its history's numbers, the verdict (1 Empty,".into(),
+        "2 Settled, 3 Unsettled) and the last of the numbers, as a value, +0 if there is none; all three are 0 after".into(),
+        "a refusal. Of `history` the first words, as many as the count, are written, and the rest stands as before.".into(),
         String::new(),
         "Calls, with their inputs; and their outputs:".into(),
     ];

@@ -6,6 +6,7 @@ use del_msh_cpu::sparse_solver::sparse_square::MatrixRefMut;
 
 use super::matrix::{cut_word, owned};
 use super::Group;
+use crate::answered::Besides;
 use crate::list::Line;
 use crate::random::Random;
 use crate::rules::{self, Counts, Length, Pattern};
@@ -80,7 +81,7 @@ const MERGE: SliceCall = SliceCall {
         DIAGONAL,
         VALUES,
     ],
-    sums: false,
+    besides: Besides::Nothing,
     answers: ANSWERS,
     refusal,
     oracle: by_dim_and_nodes!(merged, "nodes"),

@@ -7,6 +7,7 @@ use del_msh_cpu::sparse_solver::sparse_ilu::{self, Preconditioner};
 use del_msh_cpu::sparse_solver::sparse_square::MatrixOwned;
 
 use super::Group;
+use crate::answered::Besides;
 use crate::factored::{self, Factor, Pivot, Way, Words, WAYS};
 use crate::original_by_dim;
 use crate::random::Random;
@@ -50,7 +51,7 @@ const COPY_VALUE: SliceCall = SliceCall {
         write("diagonal", Value, Length::Diagonal),
         write("values", Value, Length::Entries),
     ],
-    sums: false,
+    besides: Besides::Nothing,
     answers: &[0, 1, 2, 3, 11, 8],
     refusal: refusal_of_copy,
     oracle: original_by_dim!(copy_value),
@@ -127,7 +128,7 @@ const DECOMPOSE: SliceCall = SliceCall {
         change("diagonal", Value, Length::Diagonal),
         change("values", Value, Length::Entries),
     ],
-    sums: false,
+    besides: Besides::Nothing,
     answers: &[0, 1, 2, 3, 11, 9],
     refusal: refusal_of_factor,
     oracle: original_by_dim!(decompose),
@@ -191,7 +192,7 @@ const SOLVE: SliceCall = SliceCall {
         read("diagonal", Value, Length::Diagonal),
         read("values", Value, Length::Entries),
     ],
-    sums: false,
+    besides: Besides::Nothing,
     answers: &[0, 1, 2, 3, 11],
     refusal: refusal_of_factor,
     oracle: original_by_dim!(solve),
@@ -420,13 +421,13 @@ fn compare(settings: &Settings, tally: &mut Tally) {
 
 /// A's pattern, and a factor's. Calls that are not lent A have the factor alone.
 #[derive(Clone)]
-struct Patterns {
-    a: Sparse,
-    factor: Factor,
+pub(super) struct Patterns {
+    pub a: Sparse,
+    pub factor: Factor,
 }
 
 impl Patterns {
-    fn filled(a: Sparse, way: Way) -> Patterns {
+    pub fn filled(a: Sparse, way: Way) -> Patterns {
         Patterns {
             factor: Factor::filled(&a, way),
             a,
@@ -434,7 +435,7 @@ impl Patterns {
     }
 
     /// Both have these rows; A's are as they are.
-    fn alike(a: Sparse) -> Patterns {
+    pub fn alike(a: Sparse) -> Patterns {
         Patterns::filled(a, Way::Ilu0)
     }
 
@@ -455,11 +456,24 @@ impl Patterns {
     }
 
     fn given(&self, call: &SliceCall, dim: u32, fill: Fill, random: &mut Random) -> Given {
+        self.given_at_limit(call, dim, 0, fill, random)
+    }
+
+    /// The same for a solver.
+    pub fn given_at_limit(
+        &self,
+        call: &SliceCall,
+        dim: u32,
+        limit: u32,
+        fill: Fill,
+        random: &mut Random,
+    ) -> Given {
         let counts = Counts {
             dim,
             rows: self.factor.n(),
             entries: self.factor.pattern.entries(),
             entries_of_a: self.a.entries(),
+            limit,
             ..Counts::default()
         };
         let indexes = [
@@ -470,7 +484,8 @@ impl Patterns {
             ("splits", &self.factor.splits),
         ];
         let mut given = call.given(&counts, &indexes, fill, random);
-        if call.name == COPY_VALUE.name && self.a.n() != self.factor.n() {
+        let has_a = call.slices().any(|slice| slice.name == "a_diagonal");
+        if has_a && self.a.n() != self.factor.n() {
             // A's own diagonal.
             let count = (dim * dim) as usize * self.a.n();
             call.put(&mut given, "a_diagonal", &values::mixed(count, random));
@@ -763,14 +778,14 @@ impl Run<'_> {
     }
 }
 
-fn damage(pattern: &mut Sparse, damage: Damage, random: &mut Random) {
+pub(super) fn damage(pattern: &mut Sparse, damage: Damage, random: &mut Random) {
     if let Some(damaged) = sparse::damaged(pattern, damage, random) {
         *pattern = damaged;
     }
 }
 
 /// Each fault with a chance of its own.
-fn with_faults(mut wrong: Patterns, random: &mut Random) -> Patterns {
+pub(super) fn with_faults(mut wrong: Patterns, random: &mut Random) -> Patterns {
     if random.below(4) == 0 {
         // An entry less, with the splits of what is left: 8 if A has it.
         if let Some(less) = wrong.factor.pattern.less_one(random) {

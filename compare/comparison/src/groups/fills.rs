@@ -5,6 +5,7 @@ use del_msh_cpu::sparse_solver::sparse_ilu::Preconditioner;
 use del_msh_cpu::sparse_solver::sparse_square::MatrixOwned;
 
 use super::Group;
+use crate::answered::Besides;
 use crate::list::Line;
 use crate::random::Random;
 use crate::rules::{self, Counts, Length, Pattern};
@@ -38,7 +39,7 @@ const ILU0: SliceCall = SliceCall {
     name: "initialize_ilu0",
     has_dim: false,
     takes: &[STARTS, ENTRIES, OFFSETS, COLUMNS, SPLITS],
-    sums: false,
+    besides: Besides::Nothing,
     answers: &[0, 1, 2, 3, 4],
     refusal: |r| {
         refusal(
@@ -81,7 +82,7 @@ const FULL: SliceCall = SliceCall {
     name: "initialize_full",
     has_dim: false,
     takes: &[Take::Count("n"), OFFSETS, COLUMNS, SPLITS],
-    sums: false,
+    besides: Besides::Nothing,
     answers: &[0, 1, 2, 4],
     refusal: |r| refusal(refusal_of_n(r), || rules::entries_of_full(r.count("n")), r),
     oracle: |r| written(&full(r), r),
@@ -125,7 +126,7 @@ const ILUK: SliceCall = SliceCall {
         write("levels", Level, Length::Levels),
         write("row", Index, Length::Marks),
     ],
-    sums: false,
+    besides: Besides::Nothing,
     // 5 never occurs: no level reaches the row's own number.
     answers: &[0, 1, 2, 3, 4],
     refusal: |r| refusal(refusal_of_pattern(r), || iluk(r).idx2col.len() as u128, r),

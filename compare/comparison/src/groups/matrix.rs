@@ -4,6 +4,7 @@
 use del_msh_cpu::sparse_solver::sparse_square::{self, MatrixOwned, MatrixRef, MatrixRefMut};
 
 use super::Group;
+use crate::answered::Besides;
 use crate::list::Line;
 use crate::original_by_dim;
 use crate::random::Random;
@@ -48,7 +49,7 @@ const CALLS: &[SliceCall] = &[
             Take::Number("alpha"),
             read("x", Value, Length::Rows),
         ],
-        sums: false,
+        besides: Besides::Nothing,
         answers: ANSWERS,
         refusal,
         oracle: original_by_dim!(mult_vec),
@@ -118,7 +119,7 @@ const CALLS: &[SliceCall] = &[
             write("values", Value, Length::Entries),
             write("diagonal", Value, Length::Diagonal),
         ],
-        sums: false,
+        besides: Besides::Nothing,
         answers: ANSWERS,
         refusal,
         oracle: original_by_dim!(set_zero),
@@ -147,7 +148,7 @@ const CALLS: &[SliceCall] = &[
             OFFSETS,
             COLUMNS,
         ],
-        sums: false,
+        besides: Besides::Nothing,
         answers: ANSWERS,
         refusal,
         oracle: original_by_dim!(set_fixed_bc),

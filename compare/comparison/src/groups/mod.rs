@@ -10,6 +10,7 @@ pub mod inverse;
 pub mod matrix;
 pub mod patterns;
 pub mod root;
+pub mod solvers;
 pub mod timed;
 pub mod vectors;
 
@@ -43,4 +44,5 @@ pub const ALL: &[Group] = &[
     elements::GROUP,
     fills::GROUP,
     factors::GROUP,
+    solvers::GROUP,
 ];

@@ -2,6 +2,7 @@
 // All small patterns are tried, valid or not, and larger ones that are wrong by one rule each.
 
 use super::Group;
+use crate::answered::Besides;
 use crate::list::Line;
 use crate::random::Random;
 use crate::rules::{self, Counts, Length, Pattern};
@@ -34,7 +35,7 @@ const PATTERN: SliceCall = SliceCall {
         read("offsets", Index, Length::Any),
         read("columns", Index, Length::Any),
     ],
-    sums: false,
+    besides: Besides::Nothing,
     answers: &[0, 1, 2, 3],
     refusal: |r| refusal_by(r, rules::is_valid),
     oracle: |_| Worked::default(),

@@ -5,6 +5,7 @@ use del_msh_cpu::sparse_solver::sparse_square;
 use del_msh_cpu::vtx2xn;
 
 use super::Group;
+use crate::answered::Besides;
 use crate::list::Line;
 use crate::original_by_dim;
 use crate::random::Random;
@@ -36,7 +37,7 @@ const CALLS: &[SliceCall] = &[
         name: "set_zero",
         has_dim: true,
         takes: &[N, write("p", Value, Length::Rows)],
-        sums: false,
+        besides: Besides::Nothing,
         answers: ANSWERS,
         refusal,
         oracle: original_by_dim!(set_zero),
@@ -62,7 +63,7 @@ const CALLS: &[SliceCall] = &[
             write("p", Value, Length::Rows),
             read("u", Value, Length::Rows),
         ],
-        sums: false,
+        besides: Besides::Nothing,
         answers: ANSWERS,
         refusal,
         oracle: original_by_dim!(copy),
@@ -89,7 +90,7 @@ const CALLS: &[SliceCall] = &[
             Take::Number("alpha"),
             read("p", Value, Length::Rows),
         ],
-        sums: false,
+        besides: Besides::Nothing,
         answers: ANSWERS,
         refusal,
         oracle: original_by_dim!(add_scaled_vector),
@@ -118,7 +119,7 @@ const CALLS: &[SliceCall] = &[
             Take::Number("beta"),
             read("r", Value, Length::Rows),
         ],
-        sums: false,
+        besides: Besides::Nothing,
         answers: ANSWERS,
         refusal,
         oracle: original_by_dim!(scale_and_add_vec),
@@ -146,7 +147,7 @@ const CALLS: &[SliceCall] = &[
             change("values", Value, Length::Rows),
             read("flags", Flag, Length::Rows),
         ],
-        sums: false,
+        besides: Besides::Nothing,
         answers: ANSWERS,
         refusal,
         oracle: original_by_dim!(set_fixed),
@@ -172,7 +173,7 @@ const CALLS: &[SliceCall] = &[
             change("rhs", Value, Length::Rows),
             read("flags", Flag, Length::RowsOrMore),
         ],
-        sums: false,
+        besides: Besides::Nothing,
         answers: ANSWERS,
         refusal,
         oracle: original_by_dim!(set_fix_dof_to_rhs_vector),
@@ -192,7 +193,7 @@ const CALLS: &[SliceCall] = &[
             read("v0", Value, Length::Rows),
             read("v1", Value, Length::Rows),
         ],
-        sums: true,
+        besides: Besides::NO_SUM,
         answers: ANSWERS,
         refusal,
         oracle: original_by_dim!(dot),

@@ -2,14 +2,15 @@
 // and its timed entry points go along on the same input.
 
 use super::{Access, Given, Slice, SliceCall, Take, TypedCall, Worked};
-use crate::judge::{judge, After, Answered, Case, Expected, Given as Shown};
+use crate::answered::Answered;
+use crate::judge::{judge, After, Case, Expected, Given as Shown};
 use crate::lent::Lent;
 use crate::panics::answer_of_original;
 use crate::random::Random;
 use crate::rules;
 use crate::tally::{Dim, Tally};
 use crate::typed::Typed;
-use crate::words::{self, Element};
+use crate::words::Element;
 
 /// Values of `dim` that are none of 1, 2, 3; and those of them that slices of their own lengths are tried at.
 const OTHER_DIMS: [u32; 4] = [0, 4, 7, u32::MAX];
@@ -35,8 +36,10 @@ impl SliceCall {
         if self.has_dim {
             let checked = self.typed.iter().filter(|typed| typed.is_checked());
             let names = [self.name].into_iter();
+            let asked = [rules::SIZE, rules::LIMIT, rules::SHAPE].into_iter();
+            let asked: Vec<u32> = asked.filter(|no| self.answers.contains(no)).collect();
             for name in names.chain(checked.map(|typed| typed.name)) {
-                tally.can_answer(name, Dim::Other, &[rules::SIZE, rules::SHAPE]);
+                tally.can_answer(name, Dim::Other, &asked);
             }
         }
     }
@@ -138,10 +141,10 @@ impl SliceCall {
     }
 
     fn refused(&self, number: u32, given: &Given) -> Expected {
-        let sum = self.sums.then_some(0);
+        let besides = self.besides;
         if !rules::CLEARED.contains(&number) {
             return Expected {
-                sum,
+                besides,
                 ..Expected::refused(number, self.slices().count())
             };
         }
@@ -154,7 +157,8 @@ impl SliceCall {
             number,
             row: 0,
             after: after.collect(),
-            sum,
+            besides,
+            end: None,
         }
     }
 
@@ -170,7 +174,8 @@ impl SliceCall {
             number,
             row,
             after: after.collect(),
-            sum: worked.sum.map(words::word_of),
+            besides: worked.besides,
+            end: worked.end,
         }
     }
 
@@ -237,6 +242,7 @@ impl Slice {
     fn after(&self, words: Vec<u64>) -> After {
         match (self.access, self.element) {
             (Access::Write, Element::Value) => After::Values(words),
+            (Access::Begin, Element::Value) => After::Begun(words),
             (_, Element::Value) => After::Kept(words),
             (_, element) => After::Bytes(element.bytes_of(&words)),
         }

@@ -5,7 +5,6 @@ use super::{Access, Given, SliceCall, Take};
 use crate::list::Line;
 use crate::random::Random;
 use crate::rules;
-use crate::words;
 
 /// For each call what the words of its lines are.
 pub fn about(calls: &[SliceCall]) -> Vec<String> {
@@ -33,14 +32,14 @@ impl SliceCall {
         if number == rules::DONE {
             let worked = (self.oracle)(&reading);
             (number, row) = worked.answer();
-            outputs.extend(worked.written.into_iter().flatten());
-            outputs.extend(worked.sum.map(words::word_of));
+            outputs.extend(worked.besides.words());
+            outputs.extend(self.words_after(&given.slices, &worked.written));
         } else {
             outputs.extend(self.written_words(&given.slices));
             if rules::CLEARED.contains(&number) {
                 outputs.fill(0);
             }
-            outputs.extend(self.sums.then_some(0));
+            outputs.splice(0..0, self.besides.words());
         }
         Line {
             call: self.name.to_string(),
@@ -66,6 +65,18 @@ impl SliceCall {
             }
         }
         inputs
+    }
+
+    /// The words of the slices that the call writes, once it has written these: it may write a part of one.
+    fn words_after(&self, bytes: &[Vec<u8>], written: &[Vec<u64>]) -> Vec<u64> {
+        let slices = self.slices().zip(bytes);
+        let slices = slices.filter(|(slice, _)| slice.access != Access::Read);
+        let mut words = Vec::new();
+        for ((slice, bytes), written) in slices.zip(written) {
+            words.extend(written);
+            words.extend(&slice.element.words_in(bytes)[written.len()..]);
+        }
+        words
     }
 
     /// The words of the slices that the call writes.
@@ -115,8 +126,8 @@ impl SliceCall {
         let mut lent = self.lend(&given, &mut Random::new(0));
         let got = (self.port)(&given, &mut lent);
         let after: Vec<Vec<u8>> = lent.iter().map(|lent| lent.bytes().to_vec()).collect();
-        let mut outputs = self.written_words(&after);
-        outputs.extend(got.sum);
+        let mut outputs = got.besides.words();
+        outputs.extend(self.written_words(&after));
         Line {
             number: got.number,
             row: got.row,
@@ -133,8 +144,8 @@ impl SliceCall {
         });
         let takes: Vec<String> = takes.collect();
         let written = self.slices().filter(|slice| slice.access != Access::Read);
-        let mut outputs: Vec<&str> = written.map(|slice| slice.name).collect();
-        outputs.extend(self.sums.then_some("the sum (1 word)"));
+        let mut outputs = self.besides.about().to_vec();
+        outputs.extend(written.map(|slice| slice.name));
         if outputs.is_empty() {
             outputs.push("no output word");
         }

@@ -9,7 +9,7 @@ pub use comparing::resize;
 pub use listing::{about, input_words, replay};
 pub use reading::Reading;
 
-use crate::judge::Answered;
+use crate::answered::{Answered, Besides};
 use crate::lent::Lent;
 use crate::random::Random;
 use crate::rules::{self, Counts, Length};
@@ -22,8 +22,8 @@ pub struct SliceCall {
     /// Whether it is given N, before all else.
     pub has_dim: bool,
     pub takes: &'static [Take],
-    /// Whether it answers with a sum.
-    pub sums: bool,
+    /// What it answers besides its number and row, as it is after a refusal.
+    pub besides: Besides,
     /// The answers that can occur at each N.
     pub answers: &'static [u32],
     /// What document 01 refuses the input by, or 0.
@@ -60,6 +60,8 @@ pub enum Access {
     Change,
     /// Only writes it.
     Write,
+    /// Writes its first words, as many as the input makes; what comes after them stays.
+    Begin,
 }
 
 const fn lend(name: &'static str, element: Element, length: Length, access: Access) -> Take {
@@ -81,6 +83,10 @@ pub const fn change(name: &'static str, element: Element, length: Length) -> Tak
 
 pub const fn write(name: &'static str, element: Element, length: Length) -> Take {
     lend(name, element, length, Access::Write)
+}
+
+pub const fn begin(name: &'static str, element: Element, length: Length) -> Take {
+    lend(name, element, length, Access::Begin)
 }
 
 /// A timed entry point that does what the call does, on slices of numbers.
@@ -125,11 +131,12 @@ impl Given {
 }
 
 /// What the original makes of an accepted input.
-#[derive(Default)]
 pub struct Worked {
-    /// The words of each slice that the call writes, in order.
+    /// The words of each slice that the call writes, in order: of one that it begins, those that it writes.
     pub written: Vec<Vec<u64>>,
-    pub sum: Option<f64>,
+    pub besides: Besides,
+    /// How a solve ends, to be counted.
+    pub end: Option<&'static str>,
     /// The row at which it stopped, since its pivot cannot be inverted; the words are those of that moment.
     pub singular: Option<u32>,
 }
@@ -146,7 +153,7 @@ impl Worked {
 
     pub fn sum(sum: f64) -> Worked {
         Worked {
-            sum: Some(sum),
+            besides: Besides::Sum(words::word_of(sum)),
             ..Worked::default()
         }
     }
@@ -156,6 +163,17 @@ impl Worked {
         match self.singular {
             Some(row) => (rules::SINGULAR, row),
             None => (rules::DONE, 0),
+        }
+    }
+}
+
+impl Default for Worked {
+    fn default() -> Worked {
+        Worked {
+            written: Vec::new(),
+            besides: Besides::Nothing,
+            end: None,
+            singular: None,
         }
     }
 }
@@ -239,6 +257,12 @@ impl SliceCall {
         }
     }
 
+    /// Gives a number by value this word.
+    pub fn put_number(&self, given: &mut Given, name: &str, word: u64) {
+        let at = self.number_names().position(|other| other == name);
+        given.numbers[at.expect("a number of this call")] = word;
+    }
+
     /// Gives a slice of values these words.
     pub fn put(&self, given: &mut Given, name: &str, words: &[u64]) {
         let at = self.slices().position(|slice| slice.name == name);
@@ -261,6 +285,7 @@ impl SliceCall {
         };
         for take in self.takes {
             match take {
+                Take::Count("limit") => given.numbers.push(u64::from(counts.limit)),
                 Take::Count(_) => given.numbers.push(counts.rows as u64),
                 Take::Number(_) => given.numbers.push(fill.factor(random)),
                 Take::Slice(slice) => {
@@ -287,18 +312,22 @@ impl Slice {
             return indexes.iter().map(|&index| u64::from(index)).collect();
         }
         let right = self.length.right(counts).expect("a length by the counts");
-        let mut count = right as usize;
+        let mut count = right.min(MOST_WORDS) as usize;
         if self.length == Length::RowsOrMore && random.flip() {
             count += random.below(3 * counts.dim as usize + 1);
         }
         match (self.element, self.access) {
             (Element::Flag, _) => values::flags(count, random),
             (Element::Value, Access::Write) => (0..count).map(|_| random.bits()).collect(),
+            (Element::Value, Access::Begin) => values::mixed(count, random),
             (_, Access::Write) => dirt(count, random),
             _ => fill.values(count, random),
         }
     }
 }
+
+/// No slice is made longer than that; only a history for a limit that is refused would be.
+const MOST_WORDS: u128 = 1 << 20;
 
 /// What indexes and levels hold before they are written: any bits, or small numbers, which the call might take
 /// for its own.

@@ -99,6 +99,15 @@ impl Reading<'_> {
         self.length(read).saturating_sub(1)
     }
 
+    /// The limit of a solver's steps; 0 if the call is none.
+    fn limit(&self) -> u32 {
+        if self.has_number("limit") {
+            self.count("limit")
+        } else {
+            0
+        }
+    }
+
     /// How many entries there is room for.
     pub fn room(&self) -> usize {
         self.length("columns")
@@ -112,6 +121,7 @@ impl Reading<'_> {
             entries: self.length("columns"),
             entries_of_a: self.length("entries"),
             nodes: self.length("nodes") + self.length("rows"),
+            limit: self.limit(),
         }
     }
 

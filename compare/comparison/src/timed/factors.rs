@@ -51,7 +51,7 @@ struct Found<const N: usize, const NN: usize> {
 const LARGEST_AT_2: usize = 3600;
 
 /// The rows that stand for a size; none for one that is not measured, where reading the clock would count.
-fn rows(k: usize, n: usize) -> usize {
+pub fn rows(k: usize, n: usize) -> usize {
     match (k, n) {
         (_, 0..256) => 0,
         (2, 4096) => LARGEST_AT_2,

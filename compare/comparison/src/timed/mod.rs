@@ -1,14 +1,16 @@
 // What is measured: the port's timed calls, and the same work by the original on the same buffers.
 // `blocks` has calls on many blocks, `plates` on vectors and on the matrix of a plate, `fills` those of a factor's pattern,
-// `factors` those of its values.
+// `factors` those of its values, and `solvers` whole solves.
 
 pub mod blocks;
 pub mod factors;
 pub mod fills;
 pub mod plates;
+pub mod solvers;
 
 use self::factors::Sides;
 use self::fills::Fill;
+use self::solvers::Solves;
 use crate::random::Random;
 use crate::values::{self, Kind};
 use crate::words;
@@ -27,6 +29,9 @@ pub struct Inputs {
     pub fill: Option<Fill>,
     /// What a call on a factor reads and writes, on either side. It is put back before each call.
     pub factor: Option<Box<dyn Sides>>,
+    /// What a solver reads and writes, likewise, and how many steps it takes.
+    pub solver: Option<Box<dyn Solves>>,
+    pub steps: Option<usize>,
 }
 
 impl Inputs {
@@ -34,6 +39,20 @@ impl Inputs {
         Inputs {
             values,
             ..Inputs::default()
+        }
+    }
+
+    /// Whether a call changes what it reads, so that this has to be put back before each.
+    pub fn is_changed(&self) -> bool {
+        self.factor.is_some() || self.solver.is_some()
+    }
+
+    pub fn restore(&mut self) {
+        if let Some(factor) = &mut self.factor {
+            factor.restore();
+        }
+        if let Some(solver) = &mut self.solver {
+            solver.restore();
         }
     }
 }

@@ -7,4 +7,4 @@ use Rattle.replay.proofs.room.Statement.{statement}
 use Rattle.replay.proofs.room.Tie as tie
 
 pub room-spec : {M : Type 1} → statement M
-room-spec = tie.close (tie.spec (λ c. sym (length-replicate {A = ℕ} 1048576 0)))
+room-spec = tie.close (tie.spec (λ c. sym (length-replicate {A = ℕ} 1572864 0)))

@@ -3,14 +3,11 @@
 
 use super::{Patterns, CALLS, COPY_VALUE, DECOMPOSE, SOLVE};
 use crate::factored::{self, Factor, Pivot, Way, Words, WAYS};
-use crate::list::Line;
+use crate::list::{is_short, Line};
 use crate::random::Random;
 use crate::slice_call::{resize, Fill, Given, SliceCall};
 use crate::sparse::{self, Damage, Sparse, OFFSET_DAMAGES};
 use crate::words;
-
-/// A reader without Rust has room for so many words of a line.
-const MOST_WORDS: usize = 123;
 
 pub fn sample(seed: u64) -> Vec<Line> {
     CALLS.iter().flat_map(|call| lines(call, seed)).collect()
@@ -47,10 +44,6 @@ struct Listing<'a> {
     dim: u32,
     random: &'a mut Random,
     lines: Vec<Line>,
-}
-
-fn is_short(line: &Line) -> bool {
-    line.inputs.len() + 2 + line.outputs.len() <= MOST_WORDS
 }
 
 impl Listing<'_> {

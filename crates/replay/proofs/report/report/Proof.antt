@@ -6,10 +6,10 @@ use Rattle.replay.proofs.report.report.Statement.{statement}
 use Rattle.replay.proofs.report.report.Tie as tie
 
 abbrev Inv-loop : tie.InvT-loop
-Inv-loop t cases wrong call₀ t5 t6 t7 call = call ≤ 33
+Inv-loop t cases wrong call₀ t5 t6 t7 call = call ≤ 35
 
 abbrev μ-loop : tie.MeasureT-loop
-μ-loop t cases wrong call₀ t5 t6 t7 call = 33 - call
+μ-loop t cases wrong call₀ t5 t6 t7 call = 35 - call
 
 pub report-spec : {M : Type 1} → statement M
 report-spec =
