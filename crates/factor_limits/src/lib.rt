@@ -1,17 +1,19 @@
 // The calls on a factor, copy_value, decompose and solve_preconditioning_vec (0, 1, 2), at their limits: a function runs one case, by its number.
 // Nothing is printed here, so that nothing is assumed; the program `factor_cases` goes through the numbers.
+use factor_shapes::at_most;
 use factor_shapes::column_count;
 use factor_shapes::columns_of;
+use factor_shapes::diagonal_length;
 use factor_shapes::offset_count;
 use factor_shapes::offsets_of;
 use factor_shapes::row_count;
 use factor_shapes::splits_of;
+use factor_shapes::values_length;
+use factor_shapes::vector_length;
 use limits::Seen;
 use limits::filled::fill;
 use limits::filled::is_matrix_filled;
 use limits::filled::is_vector_filled;
-use limits::sizes::values_a_block;
-use limits::sizes::values_a_row;
 ghost use Prim.Native.Nat.{_≤_, _+_};
 
 // Cases: 0 right; 1 to 10 slices 0 to 4 short, long (splits, diagonal, values, and what a call has beside these); 11 an own column;
@@ -60,40 +62,6 @@ fn a_shape(case: usize) -> usize {
         23 => 12,
         _ => 0,
     }
-}
-
-// The lengths that a shape asks for. One with more rows or columns than may be is refused by these alone.
-fn of_rows(shape: usize, each: usize) -> usize
-    requires { ⌜ each ≤ 9 ⌝ }
-    ensures { λ r. ⌜ r ≤ 36873 ⌝ }
-{
-    match shape {
-        6 => 4096 * each,
-        7 => 4097 * each,
-        8 | 9 => 257 * each,
-        12 => 2 * each,
-        _ => 3 * each,
-    }
-}
-
-fn of_entries(shape: usize, dim: usize) -> usize
-    ensures { λ r. ⌜ r ≤ 65536 ⌝ }
-{
-    match shape {
-        6 | 7 => 0,
-        8 => 65535,
-        9 => 65536,
-        10 | 11 => 5 * values_a_block(dim),
-        12 => 2 * values_a_block(dim),
-        _ => 6 * values_a_block(dim),
-    }
-}
-
-// A room, which no length here exceeds.
-fn at_most(x: usize, most: usize) -> usize
-    ensures { λ r. ⌜ r ≤ most ⌝ }
-{
-    if x < most { x } else { most }
 }
 
 // The length that a slice has in a case: one short, one long, or right. Slice 0 is long in cases 12 and 13.
@@ -209,11 +177,8 @@ fn copy_to(
 fn try_copy_value(dim: usize, case: usize) -> Seen {
     let shape = factor_shape(case);
     let from = a_shape(case);
-    let d = at_most(
-        length_in(case, 3, of_rows(from, values_a_block(dim))),
-        36874,
-    );
-    let e = at_most(length_in(case, 4, of_entries(from, dim)), 65537);
+    let d = at_most(length_in(case, 3, diagonal_length(from, dim)), 36874);
+    let e = at_most(length_in(case, 4, values_length(from, dim)), 65537);
     let starts = offsets_of(from);
     let entries = columns_of(from);
     let a_diagonal = [1.5; 36874];
@@ -226,11 +191,8 @@ fn try_copy_value(dim: usize, case: usize) -> Seen {
         &a_values[0..e],
         shape,
         at_most(length_in(case, 0, row_count(shape)), 4099),
-        at_most(
-            length_in(case, 1, of_rows(shape, values_a_block(dim))),
-            36874,
-        ),
-        at_most(length_in(case, 2, of_entries(shape, dim)), 65537),
+        at_most(length_in(case, 1, diagonal_length(shape, dim)), 36874),
+        at_most(length_in(case, 2, values_length(shape, dim)), 65537),
     )
 }
 
@@ -253,11 +215,8 @@ fn decompose_at(
 fn try_decompose(dim: usize, case: usize) -> Seen {
     let shape = factor_shape(case);
     let a = at_most(length_in(case, 0, row_count(shape)), 4099);
-    let b = at_most(
-        length_in(case, 1, of_rows(shape, values_a_block(dim))),
-        36874,
-    );
-    let c = at_most(length_in(case, 2, of_entries(shape, dim)), 65537);
+    let b = at_most(length_in(case, 1, diagonal_length(shape, dim)), 36874);
+    let c = at_most(length_in(case, 2, values_length(shape, dim)), 65537);
     let offsets = offsets_of(shape);
     let columns = columns_of(shape);
     let splits = splits_of(shape);
@@ -320,12 +279,9 @@ fn solve(
 fn try_solve(dim: usize, case: usize) -> Seen {
     let shape = factor_shape(case);
     let a = at_most(length_in(case, 0, row_count(shape)), 4099);
-    let b = at_most(
-        length_in(case, 1, of_rows(shape, values_a_block(dim))),
-        36874,
-    );
-    let c = at_most(length_in(case, 2, of_entries(shape, dim)), 65537);
-    let d = at_most(length_in(case, 3, of_rows(shape, values_a_row(dim))), 12292);
+    let b = at_most(length_in(case, 1, diagonal_length(shape, dim)), 36874);
+    let c = at_most(length_in(case, 2, values_length(shape, dim)), 65537);
+    let d = at_most(length_in(case, 3, vector_length(shape, dim)), 12292);
     let offsets = offsets_of(shape);
     let columns = columns_of(shape);
     let splits = splits_of(shape);

@@ -1,6 +1,9 @@
 // Patterns of a factor, by a number: three rows that each name the other two, that with each fault, and patterns of 01's full sizes.
 // Shapes: 0 right; 1 an own column; 2 an unsorted row; 3 and 4 a split too low, too high; 5 that and an own column; 6 and 7 have 4,096 and 4,097 rows without a column;
-// 8 and 9 have 65,535 and 65,536 columns in 257 rows; 10 lacks an entry of shape 0; 11 that and a wrong split; 12 two rows; 13 an own column and one offset.
+// 8 and 9 have 65,535 and 65,536 columns in 257 rows; 10 lacks an entry of shape 0; 11 that and a wrong split; 12 two rows; 13 an own column and one offset;
+// 14 a column twice; 15 an offset that falls; 16 no offset.
+use limits::sizes::values_a_block;
+use limits::sizes::values_a_row;
 ghost use Prim.Native.Nat.{_≤_};
 
 pub fn row_count(shape: usize) -> usize
@@ -18,10 +21,11 @@ pub fn row_count(shape: usize) -> usize
 pub fn offset_count(shape: usize) -> usize
     ensures { λ r. ⌜ r ≤ 4098 ⌝ }
 {
-    if shape == 13 {
-        return 1;
+    match shape {
+        13 => 1,
+        16 => 0,
+        _ => row_count(shape) + 1,
     }
-    row_count(shape) + 1
 }
 
 pub fn column_count(shape: usize) -> usize
@@ -35,6 +39,52 @@ pub fn column_count(shape: usize) -> usize
         12 => 2,
         _ => 6,
     }
+}
+
+// The lengths that a shape asks for. One with more rows or columns than may be is refused by these alone.
+fn of_rows(shape: usize, each: usize) -> usize
+    requires { ⌜ each ≤ 9 ⌝ }
+    ensures { λ r. ⌜ r ≤ 36873 ⌝ }
+{
+    match shape {
+        6 => 4096 * each,
+        7 => 4097 * each,
+        8 | 9 => 257 * each,
+        12 => 2 * each,
+        _ => 3 * each,
+    }
+}
+
+pub fn vector_length(shape: usize, dim: usize) -> usize
+    ensures { λ r. ⌜ r ≤ 36873 ⌝ }
+{
+    of_rows(shape, values_a_row(dim))
+}
+
+pub fn diagonal_length(shape: usize, dim: usize) -> usize
+    ensures { λ r. ⌜ r ≤ 36873 ⌝ }
+{
+    of_rows(shape, values_a_block(dim))
+}
+
+pub fn values_length(shape: usize, dim: usize) -> usize
+    ensures { λ r. ⌜ r ≤ 65536 ⌝ }
+{
+    match shape {
+        6 | 7 => 0,
+        8 => 65535,
+        9 => 65536,
+        10 | 11 => 5 * values_a_block(dim),
+        12 => 2 * values_a_block(dim),
+        _ => 6 * values_a_block(dim),
+    }
+}
+
+// A room, which no length here exceeds.
+pub fn at_most(x: usize, most: usize) -> usize
+    ensures { λ r. ⌜ r ≤ most ⌝ }
+{
+    if x < most { x } else { most }
 }
 
 // A word of a slice, if it has that place.
@@ -122,6 +172,7 @@ pub fn offsets_of(shape: usize) -> [u32; 4098] {
         8 | 9 => fill_wide_offsets(&mut offsets),
         10 | 11 => begin(&mut offsets, [0, 1, 3, 5, 0, 0]),
         12 => begin(&mut offsets, [0, 1, 2, 0, 0, 0]),
+        15 => begin(&mut offsets, [0, 4, 2, 6, 0, 0]),
         _ => begin(&mut offsets, [0, 2, 4, 6, 0, 0]),
     }
     offsets
@@ -136,6 +187,7 @@ pub fn columns_of(shape: usize) -> [u32; 65536] {
         8 | 9 => fill_wide_columns(&mut columns),
         10 | 11 => begin(&mut columns, [1, 0, 2, 0, 1, 0]),
         12 => begin(&mut columns, [1, 0, 0, 0, 0, 0]),
+        14 => begin(&mut columns, [1, 1, 0, 2, 0, 1]),
         _ => begin(&mut columns, [1, 2, 0, 2, 0, 1]),
     }
     columns

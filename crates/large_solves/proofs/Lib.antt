@@ -1,0 +1,2 @@
+-- What is proved about the solves of 4,096 rows: that each function is safe and returns.
+-- Assumes nothing.

@@ -1,0 +1,2 @@
+-- What is proved about the systems: that each function is safe and returns.
+-- Assumes nothing.

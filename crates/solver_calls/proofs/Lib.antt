@@ -1,0 +1,2 @@
+-- What is proved about the calls with N as a number: that each function is safe and returns.
+-- Assumes nothing.

@@ -1,0 +1,2 @@
+-- What is proved about the solvers' cases at a limit: that each function is safe and returns.
+-- Assumes nothing.
