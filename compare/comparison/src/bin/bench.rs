@@ -63,6 +63,9 @@ const RUNS: usize = 41;
 const ROUNDS: usize = 7;
 const ROUNDS_VARIABLE: &str = "BENCH_ROUNDS";
 
+/// BENCH_ONLY gives a part of a name: calls whose names lack it are not measured.
+const ONLY_VARIABLE: &str = "BENCH_ONLY";
+
 /// A side has fewer runs in a round, but no fewer than the least, where all of them would take longer than this.
 const ROUND_TIME: Duration = Duration::from_millis(80);
 const LEAST_RUNS: usize = 5;
@@ -279,7 +282,12 @@ fn main() {
 fn measure() {
     let random = &mut Random::new(SEED);
     let rounds = rounds();
-    let mut sections = SECTIONS.map(|section| lines(&section, rounds, random));
+    let only = env::var(ONLY_VARIABLE).unwrap_or_default();
+    let mut sections = SECTIONS.map(|section| lines(&section, &only, rounds, random));
+    assert!(
+        sections.iter().any(|lines| !lines.is_empty()),
+        "{ONLY_VARIABLE} is in no call's name: {only:?}"
+    );
     for round in 1..=rounds {
         let lines = sections.iter_mut().flatten();
         for row in lines.flat_map(|line| line.rows.iter_mut().flatten()) {
@@ -297,15 +305,17 @@ fn measure() {
         rounds * RUNS,
         rounds * LEAST_RUNS
     );
-    for (section, lines) in SECTIONS.iter().zip(&sections) {
+    let filled = |(_, lines): &(&Section, &Vec<Line>)| !lines.is_empty();
+    for (section, lines) in SECTIONS.iter().zip(&sections).filter(filled) {
         print_tables(section, lines);
     }
 }
 
-/// Every call of a section at every N, and at every size that it has.
-fn lines(section: &Section, rounds: usize, random: &mut Random) -> Vec<Line> {
+/// Every call of a section whose name has the part `only`, at every N, and at every size that it has.
+fn lines(section: &Section, only: &str, rounds: usize, random: &mut Random) -> Vec<Line> {
     let mut lines = Vec::new();
-    for timed in section.calls {
+    let measured = |timed: &&Timed| timed.name.contains(only);
+    for timed in section.calls.iter().filter(measured) {
         for &dim in timed.dims {
             let rows = SIZES.map(|size| {
                 let measured = (timed.units)(size) > 0;
