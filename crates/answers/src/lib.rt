@@ -1,5 +1,7 @@
 // The words of every call: what it answers, and the limits that it holds its input to.
 // The numbers are document 01's; `specs/Numbers.antt` says which case has which.
+#![tactic(auto)]
+
 ghost use Rattle.std.specs.Prelude.{◌≡◌};
 ghost use Rattle.answers.specs.Numbers.{number_of, row_of, refusal_number, refusal_row};
 ghost use Rattle.answers.specs.Checks.{first_of};

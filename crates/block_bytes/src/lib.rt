@@ -1,5 +1,7 @@
 // The block operations on lent bytes, with N as a number: 8 bytes to a value, the low byte first.
 // An N other than 1, 2, 3, or bytes that are not those of the values at N, are 2, and out is unchanged. Only an inverse has a later check.
+#![tactic(auto)]
+
 pub mod unchecked;
 
 ghost use Rattle.std.specs.Prelude.{◌≡◌, [], ◌∷◌, ◌*◌, ◌≤◌, length};

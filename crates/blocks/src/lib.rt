@@ -1,5 +1,7 @@
 // Small blocks by value: products, sums, scaling and inverses for N = 1, 2, 3, as document 01's "Small blocks" has them.
 // Element (r,c) of a block stands at r + N*c. Each promise is one definition over N, at the N of the call.
+#![tactic(auto)]
+
 pub mod unchecked;
 
 ghost use Rattle.std.specs.Prelude.{◌≡◌};

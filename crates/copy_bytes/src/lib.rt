@@ -1,5 +1,7 @@
 // The copy of a matrix into a factor on lent bytes, with N as a number: 8 bytes to a value and 4 to an index, the low byte first.
 // A call whose size, N or bytes are wrong answers 1 or 2 and changes nothing; any other is the call of `copying` at that N, from bytes to bytes.
+#![tactic(auto)]
+
 ghost use Rattle.std.specs.Prelude.{◌≡◌, List, ◌++◌, ℕ, ◌/◌, length};
 ghost use Rattle.std.specs.Float.{binary64};
 ghost use Rattle.answers.specs.Numbers.{number_of};

@@ -1,5 +1,7 @@
 // Document 01's `copy_value`: the values of a matrix copied into a factor, each call checked, for N = 1, 2, 3.
 // A is lent as starts and entries, its diagonal and its values; the factor as offsets, columns and splits, its diagonal and its values. A call that refuses changes nothing.
+#![tactic(auto)]
+
 pub mod unchecked;
 
 ghost use Rattle.std.specs.Prelude.{List, length, Float};

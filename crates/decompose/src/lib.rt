@@ -1,5 +1,7 @@
 // Document 01's `decompose_N`, each call checked, for N = 1, 2, 3.
 // A factor is lent as offsets, columns, splits, the values of its diagonal and those of its entries. A call that refuses by another number than 9 changes nothing.
+#![tactic(auto)]
+
 pub mod unchecked;
 
 ghost use Rattle.std.specs.Float.{binary64};

@@ -1,5 +1,7 @@
 // Document 01's `merge` and `csrdia` on lent bytes, with N as a number: 4 bytes to an index, 8 to a value, the low byte first.
 // Bytes that make no whole words, or an N other than 1, 2, 3, are 2, after 1. Any other call is that of `elements` on the words that the bytes hold.
+#![tactic(auto)]
+
 ghost use Rattle.std.specs.Prelude.{◌≡◌, List, ◌++◌, ◌||◌, ℕ, ◌/◌, length};
 ghost use Rattle.std.specs.Float.{binary64};
 ghost use Rattle.answers.specs.Numbers.{number_of};

@@ -1,5 +1,7 @@
 // Document 01's assembly: the blocks of an element are added to those of a matrix, for N = 1, 2, 3. Every call checks its input.
 // A call that refuses answers 1, 2, 3, 6 or 7 and changes nothing: all entries are found before the first addition.
+#![tactic(auto)]
+
 pub mod unchecked;
 
 ghost use Rattle.std.specs.Prelude.{length};

@@ -1,5 +1,7 @@
 // A factor on lent bytes: 8 bytes to a value and 4 to an index, the low byte first. The checks by the lengths of its bytes, for all its calls.
 // A call whose size, N or bytes are wrong answers 1 or 2 and changes nothing; any other is the call on the words that the bytes hold.
+#![tactic(auto)]
+
 pub mod unchecked;
 
 ghost use Rattle.std.specs.Prelude.{◌≡◌, ◌++◌, ◌||◌, ◌/◌};

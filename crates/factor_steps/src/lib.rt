@@ -1,3 +1,5 @@
 // The preconditioned conjugate gradient method without checks, with N as the number `dim`.
 // All of it stands in `unchecked`, since it asks that matrix and factor are valid and that the lengths fit them.
+#![tactic(auto)]
+
 pub mod unchecked;

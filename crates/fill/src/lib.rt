@@ -1,5 +1,7 @@
 // What the calls that write a pattern share in code: the check of the lengths of what is written, and words set to 0.
 // The rest of the crate is the definition of the fill and its laws.
+#![tactic(auto)]
+
 ghost use Rattle.std.specs.Prelude.{◌≡◌, length, replicate};
 ghost use Rattle.fill.specs.Promise.{wrong_outputs};
 

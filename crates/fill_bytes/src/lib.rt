@@ -1,5 +1,7 @@
 // The calls that write a pattern, on lent bytes: 4 bytes to an index, 2 to a level, the low byte first. Bytes that make no whole words are 2, after 1.
 // Any other call is that of `full`, `ilu0` or `iluk` on the words that the bytes hold. What is lent to be written is not read.
+#![tactic(auto)]
+
 ghost use Rattle.std.specs.Prelude.{◌≡◌, ◌||◌, ◌-◌, ◌/◌, length};
 ghost use Rattle.answers.specs.Numbers.{number_of};
 ghost use Rattle.answers.specs.Checks.{first_of};

@@ -1,5 +1,7 @@
 // Document 01's `set_fixed_bc`, each call checked and for N = 1, 2, 3.
 // A matrix is lent as offsets, columns, the values of its entries and those of its diagonal; the flags are N to a row.
+#![tactic(auto)]
+
 pub mod unchecked;
 
 ghost use Rattle.std.specs.Prelude.{List, length, Float};

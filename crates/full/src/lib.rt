@@ -1,5 +1,7 @@
 // Document 01's `initialize_full`: the pattern of a factor whose rows have all other columns.
 // No pattern is lent: n alone says what is written.
+#![tactic(auto)]
+
 pub mod unchecked;
 
 ghost use Rattle.full.specs.Full.{Complete};

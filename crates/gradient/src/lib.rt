@@ -1,5 +1,7 @@
 // Document 01's `conjugate_gradient`, each call checked, for N = 1, 2, 3.
 // r is the right side and becomes the residual, u becomes the solution. A call that refuses changes nothing.
+#![tactic(auto)]
+
 pub mod unchecked;
 
 ghost use Rattle.std.specs.Prelude.{◌≡◌, ◌≤◌, length, take};

@@ -1,5 +1,7 @@
 // The plain solver on lent bytes, with N as a number: 8 bytes to a value and 4 to an index, the low byte first.
 // A call whose size, limit, N or bytes are wrong answers 1, 10 or 2 and changes nothing; any other is the call of `gradient` at that N, from bytes to bytes.
+#![tactic(auto)]
+
 pub mod unchecked;
 
 ghost use Rattle.std.specs.Prelude.{◌≡◌, ◌++◌, false, ◌||◌, ◌-◌, ◌/◌, length};

@@ -1,5 +1,7 @@
 // Document 01's `initialize_ilu0`: the pattern of an incomplete factor without fill, which is that of A with its rows sorted.
 // The pattern A is lent as `starts`, its offsets, and `entries`, its columns.
+#![tactic(auto)]
+
 pub mod unchecked;
 
 ghost use Rattle.ilu0.specs.Ilu0.{Sorted};

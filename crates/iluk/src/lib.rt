@@ -1,5 +1,7 @@
 // Document 01's `initialize_iluk`: the pattern of an incomplete factor, filled to level k.
 // The pattern A is lent as `starts`, its offsets, and `entries`, its columns. `levels` and `row` are work.
+#![tactic(auto)]
+
 pub mod unchecked;
 
 ghost use Rattle.std.specs.Prelude.{◌≡◌};

@@ -1,5 +1,7 @@
 // The sparse block matrix: document 01's product and `set_zero`, each call checked, for N = 1, 2, 3.
 // A matrix is lent as offsets, columns, the values of its entries and those of its diagonal. A call that refuses changes nothing.
+#![tactic(auto)]
+
 pub mod unchecked;
 
 ghost use Rattle.std.specs.Prelude.{◌≡◌, length, List, Float};

@@ -1,5 +1,7 @@
 // The product of a matrix on lent bytes, with N as a number: 8 bytes to a value and 4 to an index, the low byte first. And the checks of every matrix call on bytes.
 // A call whose size, N or bytes are wrong answers 1 or 2 and changes nothing; any other is the call of `matrix` at that N, from bytes to bytes.
+#![tactic(auto)]
+
 pub mod unchecked;
 
 ghost use Rattle.std.specs.Prelude.{◌≡◌, ◌++◌, ◌||◌, ◌*◌, ◌/◌, length};

@@ -1,5 +1,7 @@
 // The calls of `matrix`, `fixing` and `elements` with N as a number, on words. An N other than 1, 2, 3 is 2 as a wrong length is.
 // A call that refuses changes nothing.
+#![tactic(auto)]
+
 ghost use Rattle.std.specs.Prelude.{◌≡◌, List, ◌++◌, cond, length, Float};
 ghost use Rattle.std.specs.Float.{binary64};
 ghost use Rattle.answers.specs.Numbers.{refusal_number};

@@ -1,5 +1,7 @@
 // The calls of the factors with N as a number, on words. An N other than 1, 2, 3 is 2 as a wrong length is.
 // A call that refuses by another number than 9 changes nothing.
+#![tactic(auto)]
+
 ghost use Rattle.std.specs.Prelude.{◌≡◌, List, ◌++◌, cond, ◌||◌, length, Float};
 ghost use Rattle.std.specs.Float.{binary64};
 ghost use Rattle.answers.specs.Numbers.{refusal_number, number_of, row_of};

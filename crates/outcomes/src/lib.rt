@@ -1,5 +1,7 @@
 // What the entry points for a host answer: document 01's number, the row that 9 carries, and the sum of a dot product.
 // An answer of a call becomes an outcome here, and `specs/` says what an entry point promises by it.
+#![tactic(auto)]
+
 ghost use Rattle.std.specs.Prelude.{◌≡◌};
 ghost use Rattle.std.specs.Float.{binary64};
 ghost use Rattle.answers.specs.Numbers.{number_of, row_of};

@@ -1,5 +1,7 @@
 // The pattern calls on lent bytes: 4 bytes to an index, the low byte first. Bytes that make no whole words are 2, after 1.
 // Any other call is that of `patterns` or `rows` on the words that the bytes hold.
+#![tactic(auto)]
+
 pub mod unchecked;
 
 ghost use Rattle.std.specs.Prelude.{◌≡◌, [], ◌++◌, ◌-◌, ◌*◌, ◌/◌, length};

@@ -1,5 +1,7 @@
 // Whether a lent pattern is valid, as document 01's "A valid pattern" has it, with the numbers of its refusals.
 // A check writes no lent word. The crates above make checks 1 and 2 over all that they are lent, and then call `unchecked`.
+#![tactic(auto)]
+
 pub mod unchecked;
 
 ghost use Rattle.std.specs.Prelude.{◌≡◌};

@@ -1,5 +1,7 @@
 // The preconditioner's solve: document 01's `solve_preconditioning_vec`, each call checked, for N = 1, 2, 3.
 // A factor is lent as offsets, columns, splits, the values of its diagonal and those of its entries. A call that refuses changes nothing.
+#![tactic(auto)]
+
 pub mod unchecked;
 
 ghost use Rattle.std.specs.Prelude.{length};

@@ -1,5 +1,7 @@
 // Document 01's `preconditioned_conjugate_gradient`, each call checked, for N = 1, 2, 3.
 // r is the right side and becomes the residual, x becomes the solution. A is lent as starts, entries, its values and its diagonal, the factor as offsets, columns, splits, its diagonal and its values. A call that refuses changes nothing.
+#![tactic(auto)]
+
 pub mod unchecked;
 
 ghost use Rattle.std.specs.Prelude.{◌≡◌, ◌≤◌, length, take};

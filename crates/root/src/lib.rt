@@ -1,7 +1,10 @@
 // The square root of a double, to the nearest one, worked in whole numbers: nothing is rounded before the last digit.
 // A number's binary digits are scaled by a power of four, their root is taken digit by digit, and half the power is the root's exponent.
+#![tactic(auto)]
+
 ghost use Rattle.std.specs.Prelude.{◌≡◌, true, cond, ◌+◌, ◌-◌, ◌*◌, ◌^◌, ◌<◌, ◌≤◌, leb};
 ghost use Rattle.std.specs.Float.{binary64};
+ghost use Rattle.std.specs.Float.Ieee.{lt, of_bits};
 ghost use Rattle.root.specs.Root.{Rooted};
 ghost use Rattle.root.specs.Sqrt.{sqrt};
 ghost use Rattle.root.specs.Integers.{FloorRoot, NearestRoot, units_of_bits, infinity_bits, Scaled, RootBits};
@@ -132,7 +135,7 @@ fn root_bits(bits: u64) -> u64
 
 // The root of a number above zero. Plus infinity gives itself.
 fn positive_root(x: f64) -> f64
-    requires* { do ⌜ (← ⟦x > 0.0⟧) ≡ true ⌝ }
+    requires { lt (of_bits binary64 0) x ≡ true }
     ensures { Rooted binary64 x result }
 {
     let bits = f64::to_bits(x);

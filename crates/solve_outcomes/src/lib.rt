@@ -1,5 +1,7 @@
 // What the entry points of the solvers answer: document 01's number, and of a solve its count, verdict and last history number.
 // An answer of a solve becomes such numbers here, and `specs/` says what a call with N as a number and an entry point promise by them.
+#![tactic(auto)]
+
 ghost use Rattle.std.specs.Prelude.{◌≡◌};
 ghost use Rattle.std.specs.Float.{binary64};
 ghost use Rattle.solve_outcomes.specs.Numbers.{verdict_number, solved_of};

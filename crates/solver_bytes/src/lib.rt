@@ -1,5 +1,7 @@
 // What the solvers on lent bytes share: 8 bytes to a value, the low byte first. Four vectors and a history, read from their bytes and written back.
 // A history is only written: its first `count` words, and no other byte of it changes.
+#![tactic(auto)]
+
 pub mod unchecked;
 
 ghost use Rattle.std.specs.Prelude.{◌≡◌};

@@ -1,5 +1,7 @@
 // What a solve answers: document 01's count, last history number and pan verdict, or a refusal.
 // The definitions and theorems of both solvers stand here; the crates above have the loops.
+#![tactic(auto)]
+
 ghost use Rattle.std.specs.Prelude.{◌≡◌};
 ghost use Rattle.solvers.specs.Verdict.{preconditioned_verdict, plain_verdict};
 ghost use Rattle.solvers.specs.Promise.{solve_number};

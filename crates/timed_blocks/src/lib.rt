@@ -1,5 +1,7 @@
 // The block calls over many blocks that lie one after the other, for a benchmark: no bytes are coded, so that none are timed.
 // Each does as many blocks as all its slices have room for, and nothing for an N other than 1, 2, 3.
+#![tactic(auto)]
+
 ghost use Rattle.std.specs.Prelude.{◌≡◌, true, cond, ◌*◌, ◌≤◌, length};
 ghost use Rattle.std.specs.Float.{binary64};
 ghost use Rattle.answers.specs.Limits.{outside_of};

@@ -1,5 +1,7 @@
 // The vector calls on lent bytes, with N as a number: 8 bytes to a value and 4 to a flag, the low byte first.
 // A call whose rows, N or lengths are wrong answers 1 or 2 and changes nothing; any other is the call of `vectors` at that N, from bytes to bytes.
+#![tactic(auto)]
+
 pub mod numbered;
 
 ghost use Rattle.std.specs.Prelude.{◌≡◌, [], ◌∷◌, true, false, ◌||◌, ◌*◌, ◌≤◌, length};

@@ -1,5 +1,7 @@
 // Document 01's vtx2xn and `set_fix_dof_to_rhs_vector`, for N = 1, 2, 3, on lent slices of N values a row: every call checks its input.
 // n is 1 to 4,096 rows. A call that refuses answers 1 or 2 and changes nothing.
+#![tactic(auto)]
+
 pub mod unchecked;
 
 ghost use Rattle.std.specs.Prelude.{◌≡◌, ◌≤◌, length};

@@ -1,5 +1,7 @@
 // Values as the words that programs print and hosts lend: 64 bits each.
 // A NaN is written as one fixed pattern, and any NaN pattern is read as NaN, so that no payload passes either way.
+#![tactic(auto)]
+
 pub mod unchecked;
 
 ghost use Rattle.std.specs.Prelude.{◌≡◌, ◌≤◌, length};

@@ -5,17 +5,16 @@ use Prim.Native.Nat.{ℕ, ◌+◌, ◌-◌, ◌*◌, ◌/◌, ◌%◌, ◌^◌}
 use native.Mathlib.Omega.{arith}
 use borrow.Author.Rules.{rules}
 use Rattle.root.proofs.Scales.{subnormal_units, normal_units, even_power, odd_power}
-use Rattle.root.proofs.scale.Statement.{statement}
-use Rattle.root.proofs.scale.Tie as tie
+use Rattle.root.proofs.scale.Goals as goal
 
-returns : tie.Need-returns
-returns c =
-    let bits = c.before.before.args.bits in
-    record { value = ap (λ (x : ℕ). x * 2 ^ 52) (subnormal_units bits (omega arith)) ∙ c.scale-subnormal.ensures.value; least = search rules; most = search rules; short = search rules }
+pub returns-then-bits-lt-LEADING : goal.returns-then-bits-lt-LEADING
+returns-then-bits-lt-LEADING c =
+    let bits = c.args.bits in
+    record { value = ap (λ (x : ℕ). x * 2 ^ 52) (subnormal_units bits (omega arith)) ∙ c.scale_subnormal.ensures.value; least = search rules; most = search rules; short = search rules }
 
-returns-2 : tie.Need-returns-2
-returns-2 c =
-    let bits = c.before.before.args.bits in
+pub returns-then-power-eq0 : goal.returns-then-power-eq0
+returns-then-power-eq0 c =
+    let bits = c.args.bits in
     record {
       value = normal_units bits (omega arith) ∙ even_power (bits % 2 ^ 52 + 2 ^ 52) (bits / 2 ^ 52 - 1 + 52) (omega arith);
       least = search rules;
@@ -23,16 +22,12 @@ returns-2 c =
       short = omega arith;
     }
 
-returns-3 : tie.Need-returns-3
-returns-3 c =
-    let bits = c.before.before.args.bits in
+pub returns : goal.returns
+returns c =
+    let bits = c.args.bits in
     record {
       value = normal_units bits (omega arith) ∙ odd_power (bits % 2 ^ 52 + 2 ^ 52) (bits / 2 ^ 52 - 1 + 52) (omega arith);
       least = search rules;
       most = search rules;
       short = omega arith;
     }
-
-pub scale-spec : {M : Type 1} → statement M
-scale-spec =
-    tie.close (tie.spec (λ c κs. search rules) returns (λ c. search rules) (λ c. search rules) (λ c. search rules) returns-2 (λ c. search rules) returns-3)

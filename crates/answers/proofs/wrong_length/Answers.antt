@@ -3,14 +3,9 @@
 use Prim.Native.Nat.{◌≤◌}
 use native.Mathlib.Nat.{mul-le-mul_left}
 use native.Mathlib.Omega.{arith}
-use borrow.Author.Rules.{rules}
-use Rattle.answers.proofs.wrong_length.Statement.{statement}
-use Rattle.answers.proofs.wrong_length.Tie as tie
+use Rattle.answers.proofs.wrong_length.Goals as goal
 
-mul-result : tie.Need-overflow-mul-result
-mul-result c =
+pub overflow_mul-result : goal.overflow_mul-result
+overflow_mul-result c =
     let small : c.args.n ≤ 4294967295 = omega arith in
     record { fits = omega (arith, mul-le-mul_left c.args.dim small) }
-
-pub wrong-length-spec : {M : Type 1} → statement M
-wrong-length-spec = tie.close (tie.spec mul-result (λ c. search rules))

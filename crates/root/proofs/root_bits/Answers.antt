@@ -7,14 +7,13 @@ use lib.Ieee.{binary64}
 use borrow.Author.Rules.{rules}
 use Rattle.root.specs.Integers.{units_of_bits}
 use Rattle.root.proofs.Scales.{square_value}
-use Rattle.root.proofs.root_bits.Statement.{statement}
-use Rattle.root.proofs.root_bits.Tie as tie
+use Rattle.root.proofs.root_bits.Goals as goal
 
-returns : tie.Need-returns
+pub returns : goal.returns
 returns c =
-    let s = c.before.before.scale in
-    let bits = c.before.before.before.args.bits in
-    let root = c.before.nearest-root in
+    let s = c.scale-scaled in
+    let bits = c.args.bits in
+    let root = c.nearest_root-root in
     record {
       exponent = s.result.fours + 485;
       square = s.result.digits * 2 ^ 52;
@@ -27,7 +26,3 @@ returns c =
       wide = omega (arith, s.ensures.least);
       finite = omega (arith, s.ensures.short, root.ensures.2);
     }
-
-pub root-bits-spec : {M : Type 1} → statement M
-root-bits-spec =
-    tie.close (tie.spec (λ c κs. search rules) (λ c κs. search rules) (λ c. search rules) (λ c. search rules) (λ c. search rules) returns)
