@@ -46,7 +46,7 @@ class Fn:
         self.params = of["params"]
 
     def need(self, name):
-        for it in (name, re.sub(r"^(overflow|nonzero)-", "", name), re.sub(r"^element-copy-out", "shared_slice_read", name), re.sub(r"^element-copy-out", "slice_read", name)):
+        for it in (name, re.sub(r"^(overflow|nonzero)-", "", name), re.sub(r"^element-copy-out", "shared_slice_read", name), re.sub(r"^element-copy-out", "slice_read", name), re.sub(r"^slice-bounds", "part", name)):
             if canon(it) in self.needs:
                 return self.needs[canon(it)]
         return None
@@ -138,6 +138,8 @@ class Turn:
     def __init__(self, fn, helpers, mutslices, log):
         self.fn, self.helpers, self.mutslices, self.log = fn, helpers, mutslices, log
         self.own = ()
+        self.takes = {}
+        self.inl = {}
 
     def path(self, base, place, fields):
         """A path from the place, as a path from base (a variable at place top)."""
@@ -164,6 +166,7 @@ class Turn:
                 rest = [rest[0].replace("-", "_")] + rest[1:]
             return ("value", ".".join([var, head] + rest), None)
         p = place
+        f = re.sub(r"_lem$", "", f)
         while p is not None and canon(fn.old[p]) != canon(f):
             p = fn.up(p)
         if p is None:
@@ -290,15 +293,37 @@ class Turn:
 
         text = re.sub(r"\((" + ID + r") (" + ID + r"(?:\." + ID + r")*)\)((?:\." + ID + r")+)", stash, text)
 
+        whole = [text]
+
         def one(m):
             v, fields = m[1], m[2].split(".")[1:]
             if v not in env:
                 return m[0]
             got = self.lookup(v, fields, env)
-            return got[1] if got else m[0]
+            if not got:
+                return m[0]
+            if got[0] == "place":
+                before = re.search(r"(" + ID + r")\s+$", whole[0][: m.start()])
+                word = before[1] if before else ""
+                if word in self.inl:
+                    return "\x01"
+                if word in self.takes and self.takes[word]:
+                    base = got[3]
+                    n = self.fn.depth(base[1], self.takes[word])
+                    if n is None:
+                        self.log(f"{word}: no way from {base[1]} to {self.takes[word]}")
+                    else:
+                        return base[0] + ".before" * n
+                elif v == "at":
+                    return m[0]
+            return got[1]
 
-        parts = re.split(r"(--[^\n]*)", text)
-        text = "".join(it if it.startswith("--") else TOK.sub(one, it) for it in parts)
+        parts, out = re.split(r"(--[^\n]*)", text), []
+        for it in parts:
+            whole[0] = it
+            out.append(it if it.startswith("--") else TOK.sub(one, it))
+        text = re.sub(r"\s*\x01", "", "".join(out))
+        text = re.sub(r"\((" + "|".join(map(re.escape, self.inl)) + r")\)", r"\1", text) if self.inl else text
         # helper applied to a place, bare: the projections go
         return re.sub("\x00(\\d+)\x00", lambda m: keep[int(m[1])], text)
 
@@ -351,8 +376,67 @@ def convert(path, fn, module, crate, mutslices, say):
             if m and "→" in s[2]:
                 helpers[s[1]] = fn.place(m[1])
     turn = Turn(fn, helpers, mutslices, log)
+    for com, t in body:
+        s = split_item(t)
+        if s and "tie.Need" not in s[2] and not re.match(r"\s*tie\.(invariant|decreases)", s[2]):
+            m = PLACE.search(s[2])
+            if m:
+                turn.takes[s[1]] = fn.place(m[1])
     turn.own = CLAUSES.get(module.split(".")[-1], ((), ()))[0]
     inv, ans, plain_items = [], [], []
+    inl = {}
+    order = []
+    for com, t in body:
+        s = split_item(t)
+        if not s or "tie.Need" in s[2] or re.match(r"\s*tie\.(invariant|decreases)", s[2]) or "tie.close" in s[4] or "tie." not in s[2]:
+            continue
+        mods, name, sig, unf, clauses = s
+        if name in helpers and helpers[name]:
+            continue
+        m = re.match(r"\s*\((" + ID + r") : " + PLACE.pattern + r"\)\s*", sig) or re.match(r"\s*()" + PLACE.pattern + r"\s*(?=→)", sig)
+        if not m or PLACE.search(sig[m.end() :]) or re.search(r"^\s*where", clauses, re.M):
+            log(f"helper {name} not inlined")
+            continue
+        rest = sig[m.end() :].lstrip()
+        if rest.startswith("→"):
+            rest = rest[1:].lstrip()
+        cm = re.match(re.escape(name) + r" (" + ID + r")((?: " + ID + r")*?) =(?=\s)", clauses)
+        if not cm or re.search(r"^" + re.escape(name) + " ", clauses[cm.end() :], re.M):
+            log(f"helper {name}: clauses not understood")
+            continue
+        binder = m[1] or cm[1]
+        inl[name] = (fn.place(m[2]), binder, rest.rstrip(), cm[1], cm[2].split(), clauses[cm.end() :].strip(), unf, com)
+        order.append(name)
+
+    turn.inl = inl
+
+    def uses_of(text):
+        words = set(re.findall(ID, text))
+        todo, seen = [n for n in order if n in words], []
+        while todo:
+            n = todo.pop()
+            if n not in seen:
+                seen.append(n)
+                words = set(re.findall(ID, inl[n][5] + " " + inl[n][2]))
+                todo += [k for k in order if k in words and k != n]
+        return [n for n in order if n in seen]
+
+    def lets(rhs_old, v, at):
+        """The helpers that an answer uses, as lets, and the unfolding lines that they want."""
+        out, unfs = [], []
+        for n in uses_of(rhs_old):
+            place, tb, typ, cv, args, hbody, unf, com = inl[n]
+            alias = lambda b: {b: ("alias", ("place", "", place, (v, at)))}
+            nt = turn.body(typ, alias(tb)).strip()
+            nb = turn.body(hbody, alias(cv)).strip()
+            if "let " in nt or "\n" in nt:
+                nt = "(" + nt + ")"
+            if args:
+                nb = "λ " + " ".join(args) + ". " + nb
+            c = re.sub(r"^-- ?", "", com.strip().split("\n")[-1]) if com else ""
+            out.append((f"    -- {c}\n" if c else "") + f"    let {n} : {nt} = {nb} in\n")
+            unfs += unf
+        return "".join(out), unfs
     names_used = set()
     place_names = set()
 
@@ -381,7 +465,7 @@ def convert(path, fn, module, crate, mutslices, say):
                 log(f"no loop {lname}")
                 continue
             newloop, vs = got
-            m = re.match(re.escape(name) + r"((?: " + ID + r")*) =", clauses)
+            m = re.match(re.escape(name) + r"((?: " + ID + r")*?) =(?=\s)", clauses)
             params = m[1].split()
             bycanon = {canon(v): v for v in vs}
             table = {}
@@ -426,7 +510,7 @@ def convert(path, fn, module, crate, mutslices, say):
                 log(f"need {m[1]} is gone")
                 continue
             newname, at = got
-            cm = re.match(re.escape(name) + r" (" + ID + r")((?: " + ID + r")*) =", clauses)
+            cm = re.match(re.escape(name) + r" (" + ID + r")((?: " + ID + r")*?) =(?=\s)", clauses)
             if not cm:
                 log(f"clause of {name} not understood")
                 continue
@@ -435,6 +519,10 @@ def convert(path, fn, module, crate, mutslices, say):
                 log(f"no place {at} for {newname}")
                 continue
             rhs = turn.body(clauses[cm.end() :], {v: ("var", v, at)})
+            pre, more = lets(clauses[cm.end() :], v, at)
+            unf = unf + more
+            if more:
+                unf = ["unfolding " + " ".join(dict.fromkeys(w for u in unf for w in u.split()[1:]))]
             asked = next((cs for o, cs in fn.asked.items() if canon(o) == canon(fn.oldneed(m[1]))), ())
             if len(asked) > 1:
                 as_rec = as_record(rhs, asked)
@@ -442,9 +530,13 @@ def convert(path, fn, module, crate, mutslices, say):
                     rhs = as_rec
                 else:
                     log(f"{newname}: not a tuple of {asked}")
+            if pre:
+                rhs = "\n" + pre + "    " + rhs.lstrip()
             ans.append((com, f"pub {newname} : goal.{newname}\n" + ("\n".join(unf) + "\n" if unf else "") + f"{newname} {v} =" + rhs, name))
             continue
         if "tie.close" in clauses or re.search(r"→ statement M", sig):
+            continue
+        if name in inl:
             continue
         if name in helpers and helpers[name]:
             # a projection to a place goes: its uses were replaced
@@ -484,6 +576,16 @@ def convert(path, fn, module, crate, mutslices, say):
             continue
         plain_items.append((com, t, name))
         ans.append((com, t, name))
+    fix = lambda s: re.sub(r"\(not-(?:true|false) _ (c\.if-not-" + ID + r"\.(?:true|false))\)", r"\1", re.sub(r"(?<!\()not-(?:true|false) _ (c\.if-not-" + ID + r"\.(?:true|false))", r"\1", s))
+    ans = [(c, fix(s), n) for c, s, n in ans]
+    # local names in snake case
+    mine = {n: snake(n) for _, _, n in plain_items + [(0, 0, k) for k in local] if n and snake(n) != n}
+    if mine:
+        ren = lambda s: re.sub(r"(?<![^\s(){},;])" + ID, lambda m: mine.get(m[0], m[0]), s)
+        ans = [(c, ren(s), n) for c, s, n in ans]
+        inv = [(c, ren(s), n) for c, s, n in inv]
+        plain_items = [(c, ren(s), mine.get(n, n)) for c, s, n in plain_items]
+        ans = [(c, s, mine.get(n, n)) for c, s, n in ans]
     folder = os.path.dirname(path)
     # plain items that invariants use go with them
     plain_names = {n for _, _, n in plain_items if n}
