@@ -174,7 +174,15 @@ class Turn:
             return ("value", ".".join([var] + fields), None)
         if p != place:
             self.log(f"step {f} found above {place}, at {p}")
-        rest = self.rest(p, fields[1:])
+        rest = fields[1:]
+        if not (fn.old[p].startswith("match") and rest and re.match(r"keys\d*$", rest[0])):
+            q = top
+            while q is not None:
+                for name, step, way in (fn.arms.get(q) or [0, 0, []])[2]:
+                    if canon(step) == canon(fn.old[p]) and rest[: len(way)] == way and (way or fn.old[p].startswith("match")):
+                        return ("value", ".".join([var, fn.arms[q][0], name] + rest[len(way) :]), None)
+                q = fn.up(q)
+        rest = self.rest(p, rest)
         return ("value", ".".join([var, fn.new[p]] + rest), ("step", p))
 
     def rest(self, p, rest):
@@ -197,8 +205,9 @@ class Turn:
             names = CLAUSES.get(fn.callee[p].split("::")[-1], ((), ()))[1]
             if len(names) > 1:
                 rest = ["ensures", names[int(rest[1])]] + rest[2:]
-        if fn.old[p] == "match" and re.match(r"keys\d*$", rest[0]):
+        if fn.old[p].startswith("match") and re.match(r"keys\d*$", rest[0]):
             rest = ["is"] + rest[1:]
+        rest = [{"type-inv": "type_inv", "element-fits": "element_fits"}.get(it, it) for it in rest]
         if p.startswith("At-loop") or fn.callee[p] is None:
             rest = [it.replace("-", "_") if re.fullmatch(r"[a-z]+(-[a-z0-9]+)+", it) and it not in ("in-bounds",) else it for it in rest]
         return rest

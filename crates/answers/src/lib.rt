@@ -8,7 +8,7 @@ ghost use Rattle.answers.specs.Checks.{first_of};
 ghost use Rattle.answers.specs.Limits.{outside_of, rows_out_of_range, entries_out_of_range, nodes_out_of_range, iterations_out_of_range, is_place, wrong_length, vector_checks};
 
 // Why a call refuses, one case for each of document 01's numbers, in its checking order.
-#[derive(Drop)]
+#[derive(Clone, Copy)]
 pub enum Refusal {
     Size,
     Limit,
@@ -24,7 +24,7 @@ pub enum Refusal {
 }
 
 // What a call answers that has nothing else to say.
-#[derive(Drop)]
+#[derive(Clone, Copy)]
 pub enum Answer {
     Done,
     Refused(Refusal),
@@ -41,7 +41,7 @@ fn outside(least: usize, most: usize, x: usize) -> bool
 }
 
 // A number of rows: 1 to 4,096.
-#[derive(Drop)]
+#[derive(Clone, Copy)]
 pub struct Rows(pub usize);
 
 impl Rows {
@@ -55,7 +55,7 @@ impl Rows {
 }
 
 // A number of entries of a pattern: 0 to 65,535.
-#[derive(Drop)]
+#[derive(Clone, Copy)]
 pub struct Entries(pub usize);
 
 impl Entries {
@@ -69,7 +69,7 @@ impl Entries {
 }
 
 // A number of nodes of an element: 1 to 8.
-#[derive(Drop)]
+#[derive(Clone, Copy)]
 pub struct Nodes(pub usize);
 
 impl Nodes {
@@ -83,7 +83,7 @@ impl Nodes {
 }
 
 // A limit of iterations: 0 to 4,096.
-#[derive(Drop)]
+#[derive(Clone, Copy)]
 pub struct Iterations(pub usize);
 
 impl Iterations {
@@ -97,7 +97,7 @@ impl Iterations {
 }
 
 // An index of a row, a column or a place in the columns. The largest number is none: it says that there is no place.
-#[derive(Drop)]
+#[derive(Clone, Copy)]
 pub struct Index(pub u32);
 
 impl Index {

@@ -18,7 +18,7 @@ use pattern_bytes::unchecked::decode_pattern;
 use wire::unchecked::{decode, encode};
 
 // Which of the two calls, so that both share one way.
-#[derive(Drop)]
+#[derive(Clone, Copy)]
 pub enum Call {
     Merge,
     Csrdia,

@@ -23,7 +23,7 @@ use unchecked::square;
 use wire::unchecked::{decode, encode};
 
 // The operations, so that all of them share one way from bytes to bytes.
-#[derive(Drop)]
+#[derive(Clone, Copy)]
 enum Operation {
     Apply,
     Product,

@@ -164,19 +164,19 @@ pub fn subtract_block_3(u: [f64; 9], v: [f64; 9]) -> [f64; 9]
 }
 
 // What an inverse answers: Done and the inverse, or 9 with row 0 and the block as it was given.
-#[derive(Drop)]
+#[derive(Clone, Copy)]
 pub struct Inverse1 {
     pub answer: Answer,
     pub block: [f64; 1],
 }
 
-#[derive(Drop)]
+#[derive(Clone, Copy)]
 pub struct Inverse2 {
     pub answer: Answer,
     pub block: [f64; 4],
 }
 
-#[derive(Drop)]
+#[derive(Clone, Copy)]
 pub struct Inverse3 {
     pub answer: Answer,
     pub block: [f64; 9],

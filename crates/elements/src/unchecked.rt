@@ -19,7 +19,7 @@ use patterns::is_too_large;
 use rows::unchecked::place_in;
 
 // Which pairs of an element go to the diagonal: those of the same node place, those of equal numbers, or none.
-#[derive(Drop)]
+#[derive(Clone, Copy)]
 pub enum Rule {
     Place,
     Number,

@@ -7,7 +7,7 @@ ghost use Rattle.fill.specs.Steps.{levels_in, least, spread_one, spread_all, loa
 use fill::clear;
 
 // The columns from `low` on and below `high`.
-#[derive(Drop)]
+#[derive(Clone, Copy)]
 pub struct Span {
     pub low: usize,
     pub high: usize,

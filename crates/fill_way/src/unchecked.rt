@@ -11,7 +11,7 @@ use pattern_bytes::unchecked::decode_pattern;
 use wire::unchecked::encode_indexes;
 
 // Which call, so that all share one way.
-#[derive(Drop)]
+#[derive(Clone, Copy)]
 pub enum Call {
     Full,
     Ilu0,

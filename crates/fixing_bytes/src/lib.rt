@@ -25,7 +25,7 @@ use pattern_bytes::unchecked::decode_pattern;
 use wire::unchecked::decode_flags;
 
 // The calls of this crate, so that both share one way from bytes to bytes.
-#[derive(Drop)]
+#[derive(Clone, Copy)]
 enum Operation {
     SetZero,
     SetFixedBc,

@@ -13,7 +13,7 @@ use vectors::Dot;
 
 // What every entry point answers: document 01's number, and the row that 9 carries.
 #[repr(C)]
-#[derive(Drop)]
+#[derive(Clone, Copy)]
 pub struct Outcome {
     pub number: u32,
     pub row: u32,
@@ -21,7 +21,7 @@ pub struct Outcome {
 
 // What the entry point of a dot product answers: an outcome, and the sum, which is +0.0 if the call is refused.
 #[repr(C)]
-#[derive(Drop)]
+#[derive(Clone, Copy)]
 pub struct Summed {
     pub number: u32,
     pub row: u32,

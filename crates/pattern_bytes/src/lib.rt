@@ -19,7 +19,7 @@ use unchecked::decode_pattern;
 use wire::unchecked::{decode_indexes, encode_indexes};
 
 // What is asked of a pattern: one of A, one in which a row's own column may stand, or one of a factor.
-#[derive(Drop)]
+#[derive(Clone, Copy)]
 enum Kind {
     Pattern,
     Entries,

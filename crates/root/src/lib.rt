@@ -24,7 +24,7 @@ const INFINITY: u64 = 0x7ff0_0000_0000_0000;
 const ROOT_EXPONENT: u64 = 485;
 
 // A whole number's root, to the whole number below it, and what the number has above the square of that.
-#[derive(Drop)]
+#[derive(Clone, Copy)]
 struct Floor {
     root: u64,
     left: u64,
@@ -81,7 +81,7 @@ fn nearest_root(a: u64) -> u64
 }
 
 // A number as digits * 4^fours.
-#[derive(Drop)]
+#[derive(Clone, Copy)]
 struct Fours {
     digits: u64,
     fours: u64,

@@ -10,7 +10,7 @@ use solvers::{Solve, Verdict};
 
 // The verdict is 1 of Empty, 2 of Settled and 3 of Unsettled. After a refusal the count and the verdict are 0, and the last number is +0.0.
 #[repr(C)]
-#[derive(Drop)]
+#[derive(Clone, Copy)]
 pub struct Solved {
     pub number: u32,
     pub count: u32,

@@ -9,7 +9,7 @@ ghost use Rattle.solvers.specs.Promise.{solve_number};
 use answers::Refusal;
 
 // What a solve says of the pan: the right side was too small to solve for, a step's ratio fell below the tolerance, or none did.
-#[derive(Drop)]
+#[derive(Clone, Copy)]
 pub enum Verdict {
     Empty,
     Settled,
@@ -17,7 +17,7 @@ pub enum Verdict {
 }
 
 // The answer of a solve that was not refused.
-#[derive(Drop)]
+#[derive(Clone, Copy)]
 pub struct Solution {
     pub count: u32,
     pub last: f64,
@@ -25,14 +25,14 @@ pub struct Solution {
 }
 
 // What a solve answers.
-#[derive(Drop)]
+#[derive(Clone, Copy)]
 pub enum Solve {
     Ended(Solution),
     Refused(Refusal),
 }
 
 // The tolerance of a ratio.
-#[derive(Drop)]
+#[derive(Clone, Copy)]
 pub struct Tolerance(pub f64);
 
 impl Tolerance {

@@ -22,7 +22,7 @@ use vectors::Dot;
 use wire::unchecked::{decode, decode_flags, encode};
 
 // What is lent beside the first vector.
-#[derive(Drop)]
+#[derive(Clone, Copy)]
 enum Second {
     Nothing,
     Values,
@@ -31,7 +31,7 @@ enum Second {
 }
 
 // The calls that write, so that all of them share one way from bytes to bytes.
-#[derive(Drop)]
+#[derive(Clone, Copy)]
 enum Operation {
     SetZero,
     Copy,

@@ -17,7 +17,7 @@ ghost use Rattle.vectors.specs.DotAnswers.{dot_number, Dotted};
 use answers::{Answer, Refusal, check_vector};
 
 // What a dot product answers.
-#[derive(Drop)]
+#[derive(Clone, Copy)]
 pub enum Dot {
     Sum(f64),
     Refused(Refusal),

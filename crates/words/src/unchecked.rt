@@ -4,7 +4,7 @@ ghost use Rattle.std.specs.Prelude.{◌≡◌, cond, ◌+◌, ◌≤◌, length}
 ghost use Rattle.words.specs.Text.{digit_value, all_digits, hex_value};
 
 // What the digits say, if each is one.
-#[derive(Drop)]
+#[derive(Clone, Copy)]
 pub struct Hex {
     pub value: u64,
     pub good: bool,

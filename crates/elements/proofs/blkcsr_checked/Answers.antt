@@ -1,0 +1,77 @@
+-- `blkcsr_checked` meets its promise: the lengths decide first, then the pattern, then the nodes and pairs; no pair goes to the diagonal.
+-- Assumes nothing.
+use mathlib.Core.Path.{◌≡◌, refl, sym, ◌∙◌}
+use mathlib.Core.List.{List}
+use mathlib.Core.Bool.{Bool, true}
+use lib.ListN.{length}
+use Rattle.answers.specs.Checks.{Check, first_of, none_holds}
+use Rattle.answers.proofs.EndLaws.{none_of_zero}
+use Rattle.patterns.specs.Pattern.{valid_entries}
+use Rattle.elements.specs.declared.unchecked.Rule.TheVariants.{Never}
+use Rattle.elements.specs.Assembly.{Lists}
+use Rattle.elements.specs.Checks.{entry_lengths, pair_checks}
+use Rattle.elements.proofs.CheckLaws.{sized, fits_never}
+use Rattle.elements.proofs.EndsLaws.{lengths_refused, pattern_refused, later_decide, ends_of}
+use Rattle.elements.proofs.blkcsr_checked.Goals as goal
+
+pub returns-then-number-ne0 : goal.returns-then-number-ne0
+returns-then-number-ne0 c =
+    -- the checks in their three parts
+    let lengths : List Check = let a = c.args in
+    entry_lengths a.dim (length a.rows.now) (length a.cols.now) (length a.element.now) (length a.offsets.now) (length a.columns.now)
+    (length a.values.now) in
+    let valid : Bool = valid_entries c.args.offsets.now c.args.columns.now in
+    let later : List Check = let a = c.args in pair_checks Never a.rows.now a.cols.now a.offsets.now a.columns.now in
+    lengths_refused lengths later valid _ _ _ _ c.check_entry_lengths-answer.ensures c.number.ensures c.if-number-ne0.true
+
+pub is_valid_entries-requires : goal.is_valid_entries-requires
+is_valid_entries-requires c =
+    -- the checks in their three parts
+    let lengths : List Check = let a = c.args in
+    entry_lengths a.dim (length a.rows.now) (length a.cols.now) (length a.element.now) (length a.offsets.now) (length a.columns.now)
+    (length a.values.now) in
+    -- past the first test no length is refused, past the second the pattern is valid
+    let passed : first_of lengths ≡ 0 = sym c.check_entry_lengths-answer.ensures ∙ sym c.number.ensures ∙ c.if-number-ne0.false in
+    let a = c.args in
+    sized a.dim (length a.rows.now) (length a.cols.now) (length a.element.now) (length a.offsets.now) (length a.columns.now) (length a.values.now) passed
+
+pub returns-then-not-is_valid_entries : goal.returns-then-not-is_valid_entries
+returns-then-not-is_valid_entries c =
+    -- the checks in their three parts
+    let lengths : List Check = let a = c.args in
+    entry_lengths a.dim (length a.rows.now) (length a.cols.now) (length a.element.now) (length a.offsets.now) (length a.columns.now)
+    (length a.values.now) in
+    let valid : Bool = valid_entries c.args.offsets.now c.args.columns.now in
+    let later : List Check = let a = c.args in pair_checks Never a.rows.now a.cols.now a.offsets.now a.columns.now in
+    -- past the first test no length is refused, past the second the pattern is valid
+    let passed : first_of lengths ≡ 0 = sym c.check_entry_lengths-answer.ensures ∙ sym c.number.ensures ∙ c.if-number-ne0.false in
+    let none : none_holds lengths ≡ true = none_of_zero lengths refl passed in
+    pattern_refused lengths later valid _ _ none (sym c.is_valid_entries.ensures ∙ c.if-not-is_valid_entries.true)
+
+pub assemble-requires : goal.assemble-requires
+assemble-requires c =
+    -- the checks in their three parts
+    let lengths : List Check = let a = c.args in
+    entry_lengths a.dim (length a.rows.now) (length a.cols.now) (length a.element.now) (length a.offsets.now) (length a.columns.now)
+    (length a.values.now) in
+    let valid : Bool = valid_entries c.args.offsets.now c.args.columns.now in
+    -- past the first test no length is refused, past the second the pattern is valid
+    let passed : first_of lengths ≡ 0 = sym c.check_entry_lengths-answer.ensures ∙ sym c.number.ensures ∙ c.if-number-ne0.false in
+    let right : valid ≡ true = sym c.is_valid_entries.ensures ∙ c.if-not-is_valid_entries.false in
+    let a = c.args in
+    fits_never a.dim a.rows.now a.cols.now (length a.element.now) a.offsets.now a.columns.now _ (length a.values.now) c.requires
+    passed right
+
+pub returns : goal.returns
+returns c =
+    -- the checks in their three parts
+    let lengths : List Check = let a = c.args in
+    entry_lengths a.dim (length a.rows.now) (length a.cols.now) (length a.element.now) (length a.offsets.now) (length a.columns.now)
+    (length a.values.now) in
+    let valid : Bool = valid_entries c.args.offsets.now c.args.columns.now in
+    let later : List Check = let a = c.args in pair_checks Never a.rows.now a.cols.now a.offsets.now a.columns.now in
+    -- past the first test no length is refused, past the second the pattern is valid
+    let passed : first_of lengths ≡ 0 = sym c.check_entry_lengths-answer.ensures ∙ sym c.number.ensures ∙ c.if-number-ne0.false in
+    let none : none_holds lengths ≡ true = none_of_zero lengths refl passed in
+    let right : valid ≡ true = sym c.is_valid_entries.ensures ∙ c.if-not-is_valid_entries.false in
+    later_decide lengths later valid _ _ none right _ _ (ends_of (λ (lists : Lists). lists.1) later _ _ _ _ c.assemble.ensures)

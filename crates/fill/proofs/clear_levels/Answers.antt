@@ -1,0 +1,20 @@
+-- `clear_levels` meets its promise: after i turns the first i words are 0.
+-- Assumes nothing.
+use mathlib.Core.Path.{refl, ◌∙◌}
+use Prim.Native.Nat.{◌<◌}
+use native.Mathlib.Omega.{arith}
+use lib.ListN.{length}
+use Rattle.fill.proofs.Lists.{zeros_more, zeros_end}
+use borrow.Author.Rules.{rules}
+use Rattle.fill.proofs.clear_levels.Goals as goal
+
+pub loop-i-init : goal.loop-i-init
+loop-i-init c = (refl, search rules, refl)
+
+pub loop-i-preserved : goal.loop-i-preserved
+loop-i-preserved c = let levels₀ = c.args.levels.now in
+    let h : c.loop-i.i < length levels₀ = omega arith in
+    (search rules, omega arith, rw c.loop-i.invariant.2 (zeros_more (length levels₀) c.loop-i.i levels₀ h refl))
+
+pub returns : goal.returns
+returns c = c.loop-i.invariant.2 ∙ zeros_end c.loop-i.i c.args.levels.now (omega arith)

@@ -1,0 +1,13 @@
+-- `clear_levels` meets its promise: after i turns the first i words are 0.
+-- Assumes nothing.
+use mathlib.Core.Path.{◌≡◌}
+use mathlib.Core.List.{◌++◌}
+use Prim.Native.Nat.{◌-◌, ◌≤◌}
+use lib.ListN.{length, drop, replicate}
+use Rattle.fill.proofs.clear_levels.Given as goal
+
+abbrev pub invariant-loop-i : goal.invariant-loop-i
+invariant-loop-i l = (length l.levels ≡ length l.initial.levels) × (l.i ≤ length l.initial.levels) × (l.levels ≡ replicate l.i 0 ++ drop l.i l.initial.levels)
+
+abbrev pub decreases-loop-i : goal.decreases-loop-i
+decreases-loop-i l = length l.initial.levels - l.i

@@ -1,0 +1,17 @@
+-- `unchecked::scale_each` meets its promise: after k turns the first k rows are in their places.
+-- Assumes nothing.
+use mathlib.Core.Path.{◌≡◌}
+use Prim.Native.Nat.{◌-◌, ◌≤◌}
+use lib.ListN.{length}
+use lib.Ieee.{binary64}
+use Rattle.base.specs.Iterate.{iterate}
+use Rattle.blocks.specs.Block.{scaled}
+use Rattle.lent.specs.Steps.{part_at}
+use Rattle.lent.proofs.unchecked.scale_each.Given as goal
+
+abbrev pub invariant-loop-k : goal.invariant-loop-k
+invariant-loop-k l =
+    (length l.out ≡ length l.initial.out) × (l.k ≤ l.count) × (l.out ≡ iterate (part_at (λ x _. scaled binary64 l.size x l.s) l.size l.v l.v) 0 l.k l.initial.out)
+
+abbrev pub decreases-loop-k : goal.decreases-loop-k
+decreases-loop-k l = l.count - l.k
