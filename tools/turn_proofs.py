@@ -146,10 +146,9 @@ class Turn:
         fn = self.fn
         var, top = base
         while fields and fields[0] == "before":
-            place, fields = fn.up(place), fields[1:]
-            if place is None:
-                self.log(f"before the start: {fields}")
-                return None
+            fields = fields[1:]
+            if fn.up(place) is not None:
+                place = fn.up(place)
         if not fields:
             n = fn.depth(top, place)
             if n is None:
@@ -167,8 +166,12 @@ class Turn:
             return ("value", ".".join([var, head] + rest), None)
         p = place
         f = re.sub(r"_lem$", "", f)
-        while p is not None and canon(fn.old[p]) != canon(f):
-            p = fn.up(p)
+        for want in (canon(f), canon(f).lower(), re.sub(r"^is", "", canon(f).lower())):
+            p = place
+            while p is not None and canon(fn.old[p]).lower() != want and canon(fn.old[p]) != want:
+                p = fn.up(p)
+            if p is not None:
+                break
         if p is None:
             self.log(f"no step {f} at {place}")
             return ("value", ".".join([var] + fields), None)
@@ -194,7 +197,7 @@ class Turn:
             callee = fn.callee[p]
             name = None
             if callee:
-                names = self.mutslices.get(callee.split("::")[-1])
+                names = self.mutslices.get((callee.split("::")[0], callee.split("::")[-1]))
                 if names and k < len(names):
                     name = names[k]
             if name is None:
@@ -202,7 +205,7 @@ class Turn:
             else:
                 rest = ["auto", name] + rest[2:]
         if rest[0] == "ensures" and len(rest) > 1 and rest[1].isdigit() and fn.callee[p]:
-            names = CLAUSES.get(fn.callee[p].split("::")[-1], ((), ()))[1]
+            names = CLAUSES.get((fn.callee[p].split("::")[0], fn.callee[p].split("::")[-1]), ((), ()))[1]
             if len(names) > 1:
                 rest = ["ensures", names[int(rest[1])]] + rest[2:]
         if fn.old[p].startswith("match") and re.match(r"keys\d*$", rest[0]):
@@ -391,7 +394,7 @@ def convert(path, fn, module, crate, mutslices, say):
             m = PLACE.search(s[2])
             if m:
                 turn.takes[s[1]] = fn.place(m[1])
-    turn.own = CLAUSES.get(module.split(".")[-1], ((), ()))[0]
+    turn.own = CLAUSES.get((crate, module.split(".")[-1]), ((), ()))[0]
     inv, ans, plain_items = [], [], []
     inl = {}
     order = []
@@ -669,9 +672,9 @@ def mut_slices(crate_dirs):
                     t = re.sub(r"//.*", "", open(os.path.join(top, n), encoding="utf-8").read())
                     for m in re.finditer(r"fn (\w+)(?:<[^>]*>)?\(([^{]*?)\)(?=\s*(?:->|requires|ensures|\{|\n))", t):
                         ps = re.findall(r"(\w+): &mut \[", m[2])
-                        out[m[1]] = ps
+                        out[(os.path.basename(c), m[1])] = ps
                         clauses = t[m.end() :].split("\n{", 1)[0]
-                        CLAUSES[m[1]] = (re.findall(r"requires (\w+) \{", clauses), re.findall(r"ensures (\w+) \{", clauses))
+                        CLAUSES[(os.path.basename(c), m[1])] = (re.findall(r"requires (\w+) \{", clauses), re.findall(r"ensures (\w+) \{", clauses))
     return out
 
 

@@ -6,6 +6,6 @@ use Rattle.elements.proofs.unchecked.add_at_3.Goals as goal
 
 pub returns : goal.returns
 returns c =
-    let a = c.before.before.before.before.before.before.before.before.before.before.before.args in
+    let a = c.args in
     joined binary64 3 a.element.now a.k a.e a.target.now _ _ _ _ c.block_3.ensures
     c.block_3-2.ensures c.add_block_3-sum.ensures c.put.ensures

@@ -50,20 +50,20 @@ place_in-place-requires c = short c.requires.0 c.args.i c.requires.1
 pub returns-then-not-is_place : goal.returns-then-not-is_place
 returns-then-not-is_place c =
     -- what the lookup found
-    let found : (let a = c.args in c.IsPlace-in.result ≡ place_of a.offsets.now a.columns.now a.i a.column) = let a = c.args in looked_up a.offsets.now a.columns.now a.i a.column _ c.IsPlace-in.ensures in
+    let found : (let a = c.args in c.place_in-place.result ≡ place_of a.offsets.now a.columns.now a.i a.column) = let a = c.args in looked_up a.offsets.now a.columns.now a.i a.column _ c.place_in-place.ensures in
     let a = c.args in
     no_entry a.offsets.now a.columns.now a.i a.column _ found (sym c.is_place.ensures ∙ c.if-not-is_place.true)
 
 pub overflow_add-result : goal.overflow_add-result
 overflow_add-result c =
     -- what the lookup found
-    let found : (let a = c.args in c.IsPlace-in.result ≡ place_of a.offsets.now a.columns.now a.i a.column) = let a = c.args in looked_up a.offsets.now a.columns.now a.i a.column _ c.IsPlace-in.ensures in
+    let found : (let a = c.args in c.place_in-place.result ≡ place_of a.offsets.now a.columns.now a.i a.column) = let a = c.args in looked_up a.offsets.now a.columns.now a.i a.column _ c.place_in-place.ensures in
     let below = entry_below c.requires.0 c.args.i c.requires.1 c.args.column _ found (sym c.is_place.ensures ∙ c.if-not-is_place.false) in
     record { fits = omega (arith, below, few_columns c.requires.0 c.args.i c.requires.1) }
 
 pub returns : goal.returns
 returns c =
     -- what the lookup found
-    let found : (let a = c.args in c.IsPlace-in.result ≡ place_of a.offsets.now a.columns.now a.i a.column) = let a = c.args in looked_up a.offsets.now a.columns.now a.i a.column _ c.IsPlace-in.ensures in
+    let found : (let a = c.args in c.place_in-place.result ≡ place_of a.offsets.now a.columns.now a.i a.column) = let a = c.args in looked_up a.offsets.now a.columns.now a.i a.column _ c.place_in-place.ensures in
     let a = c.args in
     some_entry a.offsets.now a.columns.now a.i a.column _ found (sym c.is_place.ensures ∙ c.if-not-is_place.false)

@@ -6,17 +6,17 @@ use Rattle.fill.proofs.PutLaws.{put_small, put_columns, put_levels, put_is, row_
 use Rattle.fill_rows.proofs.unchecked.put_row.Goals as goal
 
 pub overflow_add-splits : goal.overflow_add-splits
-overflow_add-splits c = omega (arith, put_small c.before.before.before.before.before.before.before.requires _ c.count_marks-lower.ensures)
+overflow_add-splits c = omega (arith, put_small c.requires _ c.count_marks-lower.ensures)
 
 pub overflow_cast-splits : goal.overflow_cast-splits
-overflow_cast-splits c = omega (arith, put_small c.before.before.before.before.before.before.before.requires _ c.count_marks-lower.ensures)
+overflow_cast-splits c = omega (arith, put_small c.requires _ c.count_marks-lower.ensures)
 
 pub write_row-requires : goal.write_row-requires
-write_row-requires c = let f = c.before.before.before.before.before.before.before.before.before.before.requires in
+write_row-requires c = let f = c.requires in
     ((f.ordered, f.span_in_row, f.few, f.small), ((f.within.before, f.within.after), (put_columns f, put_levels f)))
 
 pub returns : goal.returns
 returns c = let w = c.write_row.ensures in
-    let a = c.before.before.before.before.before.before.before.before.before.before.before.before.before.before.before.before.before.before.before.args in
-    let f = c.before.before.before.before.before.before.before.before.before.before.before.before.before.before.before.before.before.before.before.requires in
+    let a = c.args in
+    let f = c.requires in
     (put_is a.at _ a.columns.now _ _ w.0 refl, (put_is a.at _ a.levels.now _ _ w.1 refl, (rw c.count-marks.ensures, (refl, row_cleared f _ _ c.clear.ensures refl))))

@@ -65,10 +65,10 @@ slice_bounds-span_of-end c =
 pub span_of-requires : goal.span_of-requires
 span_of-requires c =
     let inside : c.args.i < rows_of c.args.offsets.now = omega (arith, c.requires.in_row, c.requires.rows) in
-    rw (c.requires.rows ∙ sym c.Load-row.auto.0) at (part_below _ _ _ _ _ c.requires.valid inside c.wide-a.ensures c.wide-b.ensures)
+    rw (c.requires.rows ∙ sym c.load_row.auto.row) at (part_below _ _ _ _ _ c.requires.valid inside c.wide-a.ensures c.wide-b.ensures)
 
 pub returns : goal.returns
 returns c =
     let inside : c.args.i < rows_of c.args.offsets.now = omega (arith, c.requires.in_row, c.requires.rows) in
-    let r = c.Span-of.ensures in
-    row_started _ _ _ _ _ c.requires.valid inside c.wide-a.ensures c.wide-b.ensures _ _ _ _ _ c.requires.rows c.requires.clear c.Load-row.ensures r.0 r.1 (rw c.Load-row.auto.0 at r.2)
+    let r = c.span_of.ensures in
+    row_started _ _ _ _ _ c.requires.valid inside c.wide-a.ensures c.wide-b.ensures _ _ _ _ _ c.requires.rows c.requires.clear c.load_row.ensures r.0 r.1 (rw c.load_row.auto.row at r.2)
