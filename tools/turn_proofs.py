@@ -125,6 +125,8 @@ def as_record(rhs, clauses):
     if before and not before.endswith("in"):
         return None
     parts = pieces(body[k + 1 : -1])
+    while len(parts) < len(clauses) and len(parts) > 1 and parts[-1].startswith("(") and parts[-1].endswith(")"):
+        parts = parts[:-1] + pieces(parts[-1][1:-1])
     if len(parts) != len(clauses):
         return None
     fields = "\n".join(f"      {c} = {it};" for c, it in zip(clauses, parts))
@@ -132,6 +134,19 @@ def as_record(rhs, clauses):
 
 
 CLAUSES = {}
+
+
+def by_name(names, rest):
+    """A path into clauses that were joined by pairs, as a path that begins with a clause's name."""
+    k, n = 0, len(names)
+    rest = list(rest)
+    while k < n - 1:
+        if not rest or rest[0] not in ("0", "1"):
+            return None
+        if rest.pop(0) == "0":
+            return [names[k]] + rest
+        k += 1
+    return [names[n - 1]] + rest
 
 
 class Turn:
@@ -160,7 +175,7 @@ class Turn:
             head = "requires" if f == "pre" else f
             rest = fields[1:]
             if head == "requires" and rest and rest[0].isdigit() and len(self.own) > 1:
-                rest = [self.own[int(rest[0])]] + rest[1:]
+                rest = by_name(self.own, rest) or rest
             if head in ("args", "ranges") and rest:
                 rest = [rest[0].replace("-", "_")] + rest[1:]
             return ("value", ".".join([var, head] + rest), None)
@@ -207,7 +222,7 @@ class Turn:
         if rest[0] == "ensures" and len(rest) > 1 and rest[1].isdigit() and fn.callee[p]:
             names = CLAUSES.get((fn.callee[p].split("::")[0], fn.callee[p].split("::")[-1]), ((), ()))[1]
             if len(names) > 1:
-                rest = ["ensures", names[int(rest[1])]] + rest[2:]
+                rest = ["ensures"] + (by_name(names, rest[1:]) or rest[1:])
         if fn.old[p].startswith("match") and re.match(r"keys\d*$", rest[0]):
             rest = ["is"] + rest[1:]
         rest = [{"type-inv": "type_inv", "element-fits": "element_fits"}.get(it, it) for it in rest]
@@ -250,7 +265,8 @@ class Turn:
             if inner and inner[0] == "place":
                 to = self.helpers[words[0]]
                 base = self.base(words[1], env)
-                return self.path(base, to, [])
+                got = self.path(base, to, [])
+                return got and (*got, base)
             return None
         if len(words) != 1:
             return None

@@ -12,11 +12,19 @@ pub overflow_cast-splits : goal.overflow_cast-splits
 overflow_cast-splits c = omega (arith, put_small c.requires _ c.count_marks-lower.ensures)
 
 pub write_row-requires : goal.write_row-requires
-write_row-requires c = let f = c.requires in
-    ((f.ordered, f.span_in_row, f.few, f.small), ((f.within.before, f.within.after), (put_columns f, put_levels f)))
+write_row-requires c = let f = c.requires in record {
+  low_le_high = (f.ordered, f.span_in_row, f.few, f.small);
+  by_index = (f.within.before, f.within.after);
+  row_in_bounds = (put_columns f, put_levels f);
+}
 
 pub returns : goal.returns
 returns c = let w = c.write_row.ensures in
     let a = c.args in
-    let f = c.requires in
-    (put_is a.at _ a.columns.now _ _ w.0 refl, (put_is a.at _ a.levels.now _ _ w.1 refl, (rw c.count-marks.ensures, (refl, row_cleared f _ _ c.clear.ensures refl))))
+    let f = c.requires in record {
+      columns_after = put_is a.at _ a.columns.now _ _ w.columns_after refl;
+      levels_after = put_is a.at _ a.levels.now _ _ w.levels_after refl;
+      splits_after = rw c.count_marks-lower.ensures;
+      offsets_after = refl;
+      row_after = row_cleared f _ _ c.clear.ensures refl;
+    }

@@ -11,8 +11,8 @@ use Rattle.fill_rows.proofs.unchecked.write_row.Goals as goal
 
 pub loop-j-init : goal.loop-j-init
 loop-j-init c = let a = c.args in
-    let q = columns_before a.row.now a.low a.low c.requires.by_index.0.0 (omega arith) in
-    let q' = levels_before a.row.now a.low a.low c.requires.by_index.0.0 (omega arith) in
+    let q = columns_before a.row.now a.low a.low c.requires.by_index.0 (omega arith) in
+    let q' = levels_before a.row.now a.low a.low c.requires.by_index.0 (omega arith) in
     (refl, refl, search rules, rw q, rw q (over_none _), rw q' (over_none _))
 
 pub loop-j-preserved-then-word-eq0 : goal.loop-j-preserved-then-word-eq0
@@ -58,6 +58,6 @@ returns c = let a = c.args in
     let e : c.loop-j.j ≡ a.high = omega arith in
     let r = a.row.now in
     let f = c.requires in record {
-      columns_after = rw (columns_after_lem r a.high a.high (length r) f.1.0.1 (omega arith) (search rules)) at (rw e at c.loop-j.invariant.4);
-      levels_after = rw (levels_after_lem r a.high a.high (length r) f.1.0.1 (omega arith) (search rules)) at (rw e at c.loop-j.invariant.5);
+      columns_after = rw (columns_after_lem r a.high a.high (length r) f.by_index.1 (omega arith) (search rules)) at (rw e at c.loop-j.invariant.4);
+      levels_after = rw (levels_after_lem r a.high a.high (length r) f.by_index.1 (omega arith) (search rules)) at (rw e at c.loop-j.invariant.5);
     }
