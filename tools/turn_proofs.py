@@ -134,6 +134,7 @@ def as_record(rhs, clauses):
 
 
 CLAUSES = {}
+PARAMS = {}
 
 
 def by_name(names, rest):
@@ -153,6 +154,7 @@ class Turn:
     def __init__(self, fn, helpers, mutslices, log):
         self.fn, self.helpers, self.mutslices, self.log = fn, helpers, mutslices, log
         self.own = ()
+        self.own_params = ()
         self.takes = {}
         self.inl = {}
 
@@ -177,14 +179,18 @@ class Turn:
             if head == "requires" and rest and rest[0].isdigit() and len(self.own) > 1:
                 rest = by_name(self.own, rest) or rest
             if head in ("args", "ranges") and rest:
-                rest = [rest[0].replace("-", "_")] + rest[1:]
-            return ("value", ".".join([var, head] + rest), None)
+                rest = [self.arg(rest[0])] + rest[1:]
+            return ("value", ".".join([var, head] + rest), ("args", None) if not rest and head == "args" else None)
         p = place
         f = re.sub(r"_lem$", "", f)
         for want in (canon(f), canon(f).lower(), re.sub(r"^is", "", canon(f).lower())):
             p = place
             while p is not None and canon(fn.old[p]).lower() != want and canon(fn.old[p]) != want:
                 p = fn.up(p)
+            if p is None:
+                p = top
+                while p is not None and canon(fn.old[p]).lower() != want and canon(fn.old[p]) != want:
+                    p = fn.up(p)
             if p is not None:
                 break
         if p is None:
@@ -203,22 +209,27 @@ class Turn:
         rest = self.rest(p, rest)
         return ("value", ".".join([var, fn.new[p]] + rest), ("step", p))
 
+    def arg(self, name):
+        m = re.fullmatch(r"t(\d+)", name)
+        if m and name not in self.own_params and int(m[1]) <= len(self.own_params):
+            return self.own_params[int(m[1]) - 1]
+        return name.replace("-", "_")
+
     def rest(self, p, rest):
         fn = self.fn
         if not rest:
             return rest
-        if rest[0] == "auto" and len(rest) > 1 and re.fullmatch(r"\d+", rest[1]):
-            k = int(rest[1])
-            callee = fn.callee[p]
-            name = None
-            if callee:
-                names = self.mutslices.get((callee.split("::")[0], callee.split("::")[-1]))
-                if names and k < len(names):
-                    name = names[k]
-            if name is None:
-                self.log(f"auto.{k} at {p} {callee}")
+        if rest[0] in ("auto", "new") and len(rest) > 1 and re.fullmatch(r"\d+", rest[1]):
+            k, j = 0, 1
+            while j < len(rest) and rest[j] == "1":
+                k, j = k + 1, j + 1
+            if j < len(rest) and rest[j] == "0":
+                j += 1
+            names = fn.params.get(fn.callee[p]) or ()
+            if k < len(names):
+                rest = [rest[0], names[k]] + rest[j:]
             else:
-                rest = ["auto", name] + rest[2:]
+                self.log(f"{rest[0]}.{k} at {p} {fn.callee[p]}")
         if rest[0] == "ensures" and len(rest) > 1 and rest[1].isdigit() and fn.callee[p]:
             names = CLAUSES.get((fn.callee[p].split("::")[0], fn.callee[p].split("::")[-1]), ((), ()))[1]
             if len(names) > 1:
@@ -249,7 +260,7 @@ class Turn:
             elif got and got[2]:
                 out.append(self.plain(text[pos:m.start()], env))
                 out.append(f"let {m[1]} = {got[1]} in" + m[0][m[0].rindex(" in") + 3 :])
-                env[m[1]] = ("step", got[2][1])
+                env[m[1]] = ("step", got[2][1]) if got[2][0] == "step" else ("args", None)
                 pos = m.end()
             else:
                 end = m.start() + 4
@@ -292,6 +303,8 @@ class Turn:
             base = got[3]
             res = self.path(base, got[2], fields)
             return res and (*res, base)
+        if kind[0] == "args":
+            return ("value", ".".join([v] + [self.arg(it) for it in fields[:1]] + fields[1:]), None, None)
         if kind[0] == "step":
             return ("value", ".".join([v] + self.rest(kind[1], fields)), None, None)
         return None
@@ -410,6 +423,7 @@ def convert(path, fn, module, crate, mutslices, say):
             m = PLACE.search(s[2])
             if m:
                 turn.takes[s[1]] = fn.place(m[1])
+    turn.own_params = PARAMS.get((crate, module.split(".")[-1]), ())
     turn.own = CLAUSES.get((crate, module.split(".")[-1]), ((), ()))[0]
     inv, ans, plain_items = [], [], []
     inl = {}
@@ -547,6 +561,9 @@ def convert(path, fn, module, crate, mutslices, say):
                 log(f"no place {at} for {newname}")
                 continue
             rhs = turn.body(clauses[cm.end() :], {v: ("var", v, at)})
+            extra_args = [w for w in cm[2].split() if w != "κs"]
+            if extra_args:
+                rhs = " λ " + " ".join(extra_args) + "." + rhs
             pre, more = lets(clauses[cm.end() :], v, at)
             unf = unf + more
             if more:
@@ -644,7 +661,10 @@ def convert(path, fn, module, crate, mutslices, say):
         keep = []
         for it in [x.strip() for x in m[2].split(",")]:
             n = it.split(" as ")[-1]
-            if "◌" in n:
+            if n == "[]":
+                if "[]" in texts:
+                    keep.append(it)
+            elif "◌" in n:
                 bits = [b for b in n.split("◌") if b]
                 if all(b in words for b in bits):
                     keep.append(it)
@@ -689,6 +709,7 @@ def mut_slices(crate_dirs):
                     for m in re.finditer(r"fn (\w+)(?:<[^>]*>)?\(([^{]*?)\)(?=\s*(?:->|requires|ensures|\{|\n))", t):
                         ps = re.findall(r"(\w+): &mut \[", m[2])
                         out[(os.path.basename(c), m[1])] = ps
+                        PARAMS[(os.path.basename(c), m[1])] = [it.strip() for it in re.findall(r"(?:^|,)\s*(?:mut )?(\w+): ", m[2])]
                         clauses = t[m.end() :].split("\n{", 1)[0]
                         CLAUSES[(os.path.basename(c), m[1])] = (re.findall(r"requires (\w+) \{", clauses), re.findall(r"ensures (\w+) \{", clauses))
     return out

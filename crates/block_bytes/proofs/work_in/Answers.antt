@@ -8,4 +8,4 @@ pub returns : goal.returns
 returns c =
     let a = c.args in
     written binary64 a.op a.dim a.s a.a.now a.b.now _ _ _ _ _ c.decode.ensures
-    c.decode2.ensures c.operate.ensures c.encode.ensures
+    c.decode-2.ensures c.operate-answer.ensures c.encode.ensures

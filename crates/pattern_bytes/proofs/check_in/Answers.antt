@@ -3,4 +3,4 @@
 use Rattle.pattern_bytes.proofs.check_in.Goals as goal
 
 pub returns : goal.returns
-returns c = rw (← c.decode-pattern.ensures.0, ← c.decode-pattern.ensures.1, ← c.decode-indexes.ensures) c.check_words.ensures
+returns c = rw (← c.decode_pattern.ensures.0, ← c.decode_pattern.ensures.1, ← c.decode_indexes.ensures) c.check_words.ensures

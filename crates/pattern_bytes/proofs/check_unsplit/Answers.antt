@@ -1,6 +1,7 @@
 -- `check_unsplit` meets its promise: refused by the bytes, or answered as the words are.
 -- Assumes nothing.
 use mathlib.Core.Path.{refl}
+use mathlib.Core.List.{[]}
 use native.Mathlib.Omega.{arith}
 use lib.ListN.{length}
 use Rattle.wire.specs.Words.{indexes_in}

@@ -8,4 +8,4 @@ use Rattle.wire.specs.Words.{bytes_of_indexes}
 use Rattle.pattern_bytes.proofs.sort_in.Goals as goal
 
 pub returns : goal.returns
-returns c = c.encode_indexes.ensures ∙ ap (λ (l : List ℕ). bytes_of_indexes l) c.sort.ensures ∙ ap (λ (l : List ℕ). bytes_of_indexes (sort_of l)) c.decode-indexes.ensures
+returns c = c.encode_indexes.ensures ∙ ap (λ (l : List ℕ). bytes_of_indexes l) c.sort.ensures ∙ ap (λ (l : List ℕ). bytes_of_indexes (sort_of l)) c.decode_indexes.ensures

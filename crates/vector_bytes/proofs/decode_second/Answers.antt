@@ -39,4 +39,4 @@ returns-in-LongFlags c =
     -- there are bytes for the flags of the vector
     let enough : 4 * length c.args.z.now ≤ length c.args.b.now = rw c.requires.1 (long_flags_right _ (8 * length c.args.y.now) _ (rw c.in-LongFlags.is at c.requires.0)) in
     let a = c.args in
-    rw c.enum-told4.given.1 (refl, c.decode_flags-in-LongFlags.ensures ∙ flags_take (length a.z.now) a.b.now enough)
+    rw c.in-LongFlags.is (refl, c.decode_flags-in-LongFlags.ensures ∙ flags_take (length a.z.now) a.b.now enough)

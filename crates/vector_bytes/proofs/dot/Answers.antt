@@ -1,7 +1,7 @@
 -- `dot` meets its promise, refused and done.
 -- Assumes nothing.
 use mathlib.Core.Path.{◌≡◌, refl, sym, ap, ◌∙◌}
-use mathlib.Core.List.{◌∷◌}
+use mathlib.Core.List.{[], ◌∷◌}
 use mathlib.Core.Bool.{true}
 use lib.ListN.{length}
 use Rattle.answers.specs.Numbers.{number_of}

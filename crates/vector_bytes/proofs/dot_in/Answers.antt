@@ -20,6 +20,6 @@ decode-requires-2 c =
 pub returns : goal.returns
 returns c =
     let a = c.args in
-    let room = roomy_still _ _ _ _ _ _ _ _ c.requires.0 c.decode.auto.1.0 c.decode2.auto.1.0 c.decode2.auto.1.0 in
-    dot_of_values_lem binary64 a.dim a.n a.a.now a.b.now _ _ c.dot.result c.decode.ensures c.decode2.ensures
+    let room = roomy_still _ _ _ _ _ _ _ _ c.requires.0 c.decode.auto.values c.decode-2.auto.values c.decode-2.auto.values in
+    dot_of_values_lem binary64 a.dim a.n a.a.now a.b.now _ _ c.dot.result c.decode.ensures c.decode-2.ensures
     (sum_of _ _ _ (values_asked _ _ _ _ _ room) c.dot.ensures)

@@ -1,7 +1,7 @@
 -- `dot_in_full_room` meets its promise: a part of 12,288 values is room for those of the call.
 -- Assumes nothing.
 use mathlib.Core.Path.{sym}
-use mathlib.Core.List.{◌∷◌}
+use mathlib.Core.List.{[], ◌∷◌}
 use lib.ListN.{length}
 use lib.Ieee.{binary64, of_bits}
 use Rattle.vector_bytes.specs.Checks.{words}

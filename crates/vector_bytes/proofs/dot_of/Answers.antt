@@ -1,6 +1,6 @@
 -- `dot_of` meets its promise: whichever room is taken, the words of the call fit.
 -- Assumes nothing.
-use mathlib.Core.List.{◌∷◌}
+use mathlib.Core.List.{[], ◌∷◌}
 use lib.ListN.{length}
 use Rattle.vector_bytes.specs.Checks.{words}
 use Rattle.vector_bytes.proofs.CheckLaws.{known, few_rows, small_dim}

@@ -1,6 +1,6 @@
 -- `operate` meets its promise: on each way the call's own checks find nothing, so that it is done.
 -- Assumes nothing.
-use mathlib.Core.List.{◌∷◌}
+use mathlib.Core.List.{[], ◌∷◌}
 use lib.ListN.{length}
 use Rattle.vector_bytes.specs.Checks.{words, long_words, call_checks}
 use Rattle.vector_bytes.proofs.NumberedLaws.{done_of}

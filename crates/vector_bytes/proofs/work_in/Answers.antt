@@ -20,7 +20,7 @@ decode_second-requires c =
 
 pub operate-answer-requires : goal.operate-answer-requires
 operate-answer-requires c =
-    roomy_still _ _ _ _ _ _ _ _ c.requires.0 c.decode.auto.1.0 c.decode-second.auto.0 c.decode-second.auto.1.0
+    roomy_still _ _ _ _ _ _ _ _ c.requires.0 c.decode.auto.values c.decode_second.auto.y c.decode_second.auto.z
 
 pub encode-requires : goal.encode-requires
 encode-requires c =
@@ -28,16 +28,16 @@ encode-requires c =
     omega (
       arith,
       first_bytes a.n a.dim _ _ _ (length a.out.now) (length a.b.now) (second_of a.op) c.requires.0 c.requires.1,
-      c.decode.auto.1.0,
-      c.operate.auto.0,
+      c.decode.auto.values,
+      c.operate-answer.auto.x,
     )
 
 pub returns : goal.returns
 returns c =
     let a = c.args in
     let room = c.requires.0 in (
-      c.operate.ensures.0,
-      bytes_to_bytes binary64 a.op _ a.s a.b.now a.out.now a.y.now _ _ _ a.z.now _ _ c.second-of.ensures
-          (c.decode.auto.1.0 ∙ room.first ∙ sym room.third) c.decode.ensures c.decode-second.ensures.0
-          c.decode-second.ensures.1 c.operate.ensures.1 c.encode.ensures,
+      c.operate-answer.ensures.0,
+      bytes_to_bytes binary64 a.op _ a.s a.b.now a.out.now a.y.now _ _ _ a.z.now _ _ c.second_of.ensures
+          (c.decode.auto.values ∙ room.first ∙ sym room.third) c.decode.ensures c.decode_second.ensures.0
+          c.decode_second.ensures.1 c.operate-answer.ensures.1 c.encode.ensures,
     )

@@ -1,7 +1,7 @@
 -- `numbered::copy` meets its promise: at 1, 2, 3 it is the call of `vectors`, and at any other N it is refused.
 -- Assumes nothing.
 use mathlib.Core.Path.{refl}
-use mathlib.Core.List.{◌∷◌}
+use mathlib.Core.List.{[], ◌∷◌}
 use lib.ListN.{length}
 use Rattle.vector_bytes.specs.Checks.{words}
 use Rattle.vector_bytes.proofs.NumberedLaws.{at_pair, at_no_dim}

@@ -1,7 +1,7 @@
 -- `numbered::dot` meets its promise: at 1, 2, 3 it is the call of `vectors`, and at any other N it is refused.
 -- Assumes nothing.
 use mathlib.Core.Path.{refl}
-use mathlib.Core.List.{◌∷◌}
+use mathlib.Core.List.{[], ◌∷◌}
 use lib.ListN.{length}
 use lib.Ieee.{binary64}
 use Rattle.vector_bytes.specs.Checks.{words}

@@ -1,7 +1,7 @@
 -- `numbered::set_fix_dof_to_rhs_vector` meets its promise: at 1, 2, 3 it is the call of `vectors`, and at any other N it is refused.
 -- Assumes nothing.
 use mathlib.Core.Path.{refl}
-use mathlib.Core.List.{◌∷◌}
+use mathlib.Core.List.{[], ◌∷◌}
 use lib.ListN.{length}
 use Rattle.vector_bytes.specs.Checks.{words, long_words}
 use Rattle.vector_bytes.proofs.NumberedLaws.{at_long_flags, at_no_dim}

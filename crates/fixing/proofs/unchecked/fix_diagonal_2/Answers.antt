@@ -1,0 +1,17 @@
+-- `unchecked::fix_diagonal_2` meets its promise: where nothing is fixed all stays, and else the block is read, made anew and put back.
+-- Assumes nothing.
+use mathlib.Core.Path.{sym, ◌∙◌}
+use lib.Ieee.{binary64}
+use Rattle.fixing.specs.Steps.{given}
+use Rattle.fixing.proofs.FixingLaws.{diagonal_stays, joined_diagonal}
+use Rattle.fixing.proofs.unchecked.fix_diagonal_2.Goals as goal
+
+pub returns-then-not-any_2 : goal.returns-then-not-any_2
+returns-then-not-any_2 c =
+    let a = c.args in
+    diagonal_stays binary64 2 a.val_dia (given a.fixed) a.i a.diagonal.now c.requires (sym c.any_2.ensures ∙ c.if-not-any_2.true)
+
+pub returns : goal.returns
+returns c =
+    let a = c.args in
+    joined_diagonal binary64 2 a.val_dia (given a.fixed) a.i a.diagonal.now _ _ _ c.block_2.ensures c.diagonal_2-new.ensures c.put.ensures
