@@ -207,7 +207,10 @@ class Turn:
                         return ("value", ".".join([var, fn.arms[q][0], name] + rest[len(way) :]), None)
                 q = fn.up(q)
         rest = self.rest(p, rest)
-        return ("value", ".".join([var, fn.new[p]] + rest), ("step", p))
+        names = CLAUSES.get(tuple((fn.callee[p] or "::").split("::")[:1] + (fn.callee[p] or "::").split("::")[-1:]), ((), ()))[1]
+        if rest == ["ensures"] and len(names) > 1:
+            return ("value", ".".join([var, fn.new[p]] + rest), ("clauses", names))
+        return ("value", ".".join([var, fn.new[p]] + rest), ("step", p) if not rest else None)
 
     def arg(self, name):
         m = re.fullmatch(r"t(\d+)", name)
@@ -260,7 +263,7 @@ class Turn:
             elif got and got[2]:
                 out.append(self.plain(text[pos:m.start()], env))
                 out.append(f"let {m[1]} = {got[1]} in" + m[0][m[0].rindex(" in") + 3 :])
-                env[m[1]] = ("step", got[2][1]) if got[2][0] == "step" else ("args", None)
+                env[m[1]] = got[2]
                 pos = m.end()
             else:
                 end = m.start() + 4
@@ -303,6 +306,8 @@ class Turn:
             base = got[3]
             res = self.path(base, got[2], fields)
             return res and (*res, base)
+        if kind[0] == "clauses":
+            return ("value", ".".join([v] + (by_name(kind[1], fields) or fields) if fields else [v]), None, None)
         if kind[0] == "args":
             return ("value", ".".join([v] + [self.arg(it) for it in fields[:1]] + fields[1:]), None, None)
         if kind[0] == "step":

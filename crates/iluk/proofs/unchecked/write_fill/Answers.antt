@@ -12,7 +12,7 @@ write_rows-requires c = shaped_clear _ _ _ _ _ _ _ _ _ _ c.requires.row_len c.re
 pub returns-then-write_rows : goal.returns-then-write_rows
 returns-then-write_rows c = let all = c.write_rows in
     whole_done _ _ _ _ _ _ _ _ _ _ _ _ all.ensures c.clear.ensures c.if-write_rows.true _
-    (zeros_as c.clear_levels.ensures (all.auto.columns.1.1.0 ∙ c.requires.shaped.levels_long))
+    (zeros_as c.clear_levels.ensures (all.auto.levels ∙ c.requires.shaped.levels_long))
 
 pub shape_of-columns : goal.shape_of-columns
 shape_of-columns c = c.clear-4.auto.s ∙ c.write_rows.auto.columns ∙ c.clear.auto.s
@@ -24,6 +24,6 @@ returns c = let all = c.write_rows in
     whole_room _ _ _ _ _ _ _ _ _ _ _ _ all.ensures c.clear.ensures c.if-write_rows.false _ _ _ _ _
     (zeros_as c.clear-3.ensures (all.auto.offsets ∙ S.offsets_long ∙ ap (λ (x : ℕ). x + 1) n))
     (zeros_as c.clear-4.ensures (all.auto.columns ∙ c.clear.auto.s))
-    (zeros_as c.clear-5.ensures (all.auto.columns.1.0 ∙ S.splits_long ∙ n))
-    (zeros_as c.clear_levels-2.ensures (all.auto.columns.1.1.0 ∙ S.levels_long))
-    (zeros_as c.clear-6.ensures (all.auto.columns.1.1.1.0 ∙ c.clear-2.auto.s ∙ n))
+    (zeros_as c.clear-5.ensures (all.auto.splits ∙ S.splits_long ∙ n))
+    (zeros_as c.clear_levels-2.ensures (all.auto.levels ∙ S.levels_long))
+    (zeros_as c.clear-6.ensures (all.auto.row ∙ c.clear-2.auto.s ∙ n))

@@ -44,9 +44,9 @@ loop-i-preserved c = let l = c.loop-i in
       search rules,
       search rules,
       search rules,
-      c.put_row.auto.levels.1.1.1.0 ∙ c.row_levels-span.auto.row ∙ l.invariant.4,
+      c.put_row.auto.row ∙ c.row_levels-span.auto.row ∙ l.invariant.4,
       omega (arith, c.if-columns-at.false, l.invariant.1, c.requires.shaped.room, l.invariant.5),
-      going_more _ _ _ G _ _ _ (worked_as (sym (going_long G)) c.row_levels-span.ensures) c.loop-i-test.true _ _ _ _ _ _ c.count_marks-all.ensures c.if-columns-at.false p.0 p.1.0 p.1.1.0 p.1.1.1.0 p.1.1.1.1,
+      going_more _ _ _ G _ _ _ (worked_as (sym (going_long G)) c.row_levels-span.ensures) c.loop-i-test.true _ _ _ _ _ _ c.count_marks-all.ensures c.if-columns-at.false p.columns_after p.levels_after p.splits_after p.offsets_after p.row_after,
     )
 
 pub returns : goal.returns

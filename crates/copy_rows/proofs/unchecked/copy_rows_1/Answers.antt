@@ -1,0 +1,221 @@
+-- `unchecked::copy_rows_1` meets its promise: after i turns the first i rows have their blocks.
+-- Assumes nothing.
+use mathlib.Core.Path.{◌≡◌, refl}
+use Prim.Native.Nat.{ℕ, ◌+◌, ◌*◌, ◌≤◌}
+use native.Mathlib.Omega.{arith}
+use lib.ListN.{length, get_or, length-replicate}
+use lib.Ieee.{binary64}
+use Rattle.patterns.specs.Pattern.{rows_of, row_of}
+use Rattle.copy_check.proofs.LookLaws.{both_ends}
+use Rattle.copy_rows.proofs.AllLaws.{copies, placed_at, places, part_length, rows_none, rows_more, rows_kept, rows_all}
+use borrow.Author.Rules.{rules}
+use Rattle.copy_rows.proofs.unchecked.copy_rows_1.Goals as goal
+
+pub overflow_sub-rows : goal.overflow_sub-rows
+overflow_sub-rows c = let fit = c.requires in omega (arith, fit.patterns.some, fit.patterns.same)
+
+pub loop-i-init : goal.loop-i-init
+loop-i-init c =
+    let a = c.args in
+    (refl, length-replicate {A = ℕ} 4096 0, search rules, rows_none binary64 1 a.starts.now a.entries.now a.a_values.now a.offsets.now a.columns.now c.requires.patterns.valid_factor _)
+
+pub bounds-starts-i : goal.bounds-starts-i
+bounds-starts-i c = omega (arith, c.requires.patterns.same)
+
+pub overflow_cast-first : goal.overflow_cast-first
+overflow_cast-first c = record { fits = omega (arith, c.shared_slice_known-in-loop-i-1.given c.loop-i.i) }
+
+pub bounds-starts-i-in-loop-i : goal.bounds-starts-i-in-loop-i
+bounds-starts-i-in-loop-i c = omega (arith, c.requires.patterns.same)
+
+pub overflow_cast-past : goal.overflow_cast-past
+overflow_cast-past c = record { fits = omega (arith, c.shared_slice_known-in-loop-i-2-1.given (c.loop-i.i + 1)) }
+
+pub overflow_cast-from : goal.overflow_cast-from
+overflow_cast-from c = record { fits = omega (arith, c.shared_slice_known-in-loop-i-3-1.given c.loop-i.i) }
+
+pub overflow_cast-to : goal.overflow_cast-to
+overflow_cast-to c = record { fits = omega (arith, c.shared_slice_known-in-loop-i-4-1.given (c.loop-i.i + 1)) }
+
+pub overflow_mul-begin : goal.overflow_mul-begin
+overflow_mul-begin c =
+    -- and so do its values
+    let filled : (let a = c.args in
+    let i = c.loop-i.i in
+    (1 * 1 * get_or a.offsets.now i 0 ≤ 1 * 1 * get_or a.offsets.now (i + 1) 0)
+    × (1 * 1 * get_or a.offsets.now (i + 1) 0 ≤ length c.loop-i.values)) = let fit = c.requires in
+    let e = places fit c.loop-i.i (omega (arith, fit.patterns.same)) in
+    (e.0, omega (arith, e.1, c.loop-i.invariant.0)) in
+    omega (arith, filled)
+
+pub overflow_mul-end : goal.overflow_mul-end
+overflow_mul-end c =
+    -- and so do its values
+    let filled : (let a = c.args in
+    let i = c.loop-i.i in
+    (1 * 1 * get_or a.offsets.now i 0 ≤ 1 * 1 * get_or a.offsets.now (i + 1) 0)
+    × (1 * 1 * get_or a.offsets.now (i + 1) 0 ≤ length c.loop-i.values)) = let fit = c.requires in
+    let e = places fit c.loop-i.i (omega (arith, fit.patterns.same)) in
+    (e.0, omega (arith, e.1, c.loop-i.invariant.0)) in
+    omega (arith, filled)
+
+pub offset_bounds-values-begin : goal.offset_bounds-values-begin
+offset_bounds-values-begin c =
+    -- and so do its values
+    let filled : (let a = c.args in
+    let i = c.loop-i.i in
+    (1 * 1 * get_or a.offsets.now i 0 ≤ 1 * 1 * get_or a.offsets.now (i + 1) 0)
+    × (1 * 1 * get_or a.offsets.now (i + 1) 0 ≤ length c.loop-i.values)) = let fit = c.requires in
+    let e = places fit c.loop-i.i (omega (arith, fit.patterns.same)) in
+    (e.0, omega (arith, e.1, c.loop-i.invariant.0)) in
+    omega (arith, filled)
+
+pub slice_bounds-row_1-count : goal.slice_bounds-row_1-count
+slice_bounds-row_1-count c =
+    -- and so do its values
+    let filled : (let a = c.args in
+    let i = c.loop-i.i in
+    (1 * 1 * get_or a.offsets.now i 0 ≤ 1 * 1 * get_or a.offsets.now (i + 1) 0)
+    × (1 * 1 * get_or a.offsets.now (i + 1) 0 ≤ length c.loop-i.values)) = let fit = c.requires in
+    let e = places fit c.loop-i.i (omega (arith, fit.patterns.same)) in
+    (e.0, omega (arith, e.1, c.loop-i.invariant.0)) in
+    omega (arith, filled)
+
+pub slice_bounds-row_1-start : goal.slice_bounds-row_1-start
+slice_bounds-row_1-start c =
+    -- and so do its values
+    let filled : (let a = c.args in
+    let i = c.loop-i.i in
+    (1 * 1 * get_or a.offsets.now i 0 ≤ 1 * 1 * get_or a.offsets.now (i + 1) 0)
+    × (1 * 1 * get_or a.offsets.now (i + 1) 0 ≤ length c.loop-i.values)) = let fit = c.requires in
+    let e = places fit c.loop-i.i (omega (arith, fit.patterns.same)) in
+    (e.0, omega (arith, e.1, c.loop-i.invariant.0)) in
+    omega (arith, filled)
+
+pub slice_bounds-row_1-end : goal.slice_bounds-row_1-end
+slice_bounds-row_1-end c =
+    -- and so do its values
+    let filled : (let a = c.args in
+    let i = c.loop-i.i in
+    (1 * 1 * get_or a.offsets.now i 0 ≤ 1 * 1 * get_or a.offsets.now (i + 1) 0)
+    × (1 * 1 * get_or a.offsets.now (i + 1) 0 ≤ length c.loop-i.values)) = let fit = c.requires in
+    let e = places fit c.loop-i.i (omega (arith, fit.patterns.same)) in
+    (e.0, omega (arith, e.1, c.loop-i.invariant.0)) in
+    omega (arith, filled)
+
+pub offset_bounds-columns-from : goal.offset_bounds-columns-from
+offset_bounds-columns-from c =
+    -- the parts of row i lie within their lists
+    let ends : (let a = c.args in
+    let i = c.loop-i.i in
+    (get_or a.starts.now i 0 ≤ get_or a.starts.now (i + 1) 0) × (get_or a.starts.now (i + 1) 0 ≤ length a.entries.now)
+    × (get_or a.offsets.now i 0 ≤ get_or a.offsets.now (i + 1) 0) × (get_or a.offsets.now (i + 1) 0 ≤ length a.columns.now)) = both_ends c.requires.patterns c.loop-i.i (omega (arith, c.requires.patterns.same)) in
+    omega (arith, ends)
+
+pub slice_bounds-row_1-count-in-loop-i : goal.slice_bounds-row_1-count-in-loop-i
+slice_bounds-row_1-count-in-loop-i c =
+    -- the parts of row i lie within their lists
+    let ends : (let a = c.args in
+    let i = c.loop-i.i in
+    (get_or a.starts.now i 0 ≤ get_or a.starts.now (i + 1) 0) × (get_or a.starts.now (i + 1) 0 ≤ length a.entries.now)
+    × (get_or a.offsets.now i 0 ≤ get_or a.offsets.now (i + 1) 0) × (get_or a.offsets.now (i + 1) 0 ≤ length a.columns.now)) = both_ends c.requires.patterns c.loop-i.i (omega (arith, c.requires.patterns.same)) in
+    omega (arith, ends)
+
+pub slice_bounds-row_1-start-in-loop-i : goal.slice_bounds-row_1-start-in-loop-i
+slice_bounds-row_1-start-in-loop-i c =
+    -- the parts of row i lie within their lists
+    let ends : (let a = c.args in
+    let i = c.loop-i.i in
+    (get_or a.starts.now i 0 ≤ get_or a.starts.now (i + 1) 0) × (get_or a.starts.now (i + 1) 0 ≤ length a.entries.now)
+    × (get_or a.offsets.now i 0 ≤ get_or a.offsets.now (i + 1) 0) × (get_or a.offsets.now (i + 1) 0 ≤ length a.columns.now)) = both_ends c.requires.patterns c.loop-i.i (omega (arith, c.requires.patterns.same)) in
+    omega (arith, ends)
+
+pub slice_bounds-row_1-end-in-loop-i : goal.slice_bounds-row_1-end-in-loop-i
+slice_bounds-row_1-end-in-loop-i c =
+    -- the parts of row i lie within their lists
+    let ends : (let a = c.args in
+    let i = c.loop-i.i in
+    (get_or a.starts.now i 0 ≤ get_or a.starts.now (i + 1) 0) × (get_or a.starts.now (i + 1) 0 ≤ length a.entries.now)
+    × (get_or a.offsets.now i 0 ≤ get_or a.offsets.now (i + 1) 0) × (get_or a.offsets.now (i + 1) 0 ≤ length a.columns.now)) = both_ends c.requires.patterns c.loop-i.i (omega (arith, c.requires.patterns.same)) in
+    omega (arith, ends)
+
+pub offset_bounds-entries-first : goal.offset_bounds-entries-first
+offset_bounds-entries-first c =
+    -- the parts of row i lie within their lists
+    let ends : (let a = c.args in
+    let i = c.loop-i.i in
+    (get_or a.starts.now i 0 ≤ get_or a.starts.now (i + 1) 0) × (get_or a.starts.now (i + 1) 0 ≤ length a.entries.now)
+    × (get_or a.offsets.now i 0 ≤ get_or a.offsets.now (i + 1) 0) × (get_or a.offsets.now (i + 1) 0 ≤ length a.columns.now)) = both_ends c.requires.patterns c.loop-i.i (omega (arith, c.requires.patterns.same)) in
+    omega (arith, ends)
+
+pub slice_bounds-row_1-count-in-loop-i-2 : goal.slice_bounds-row_1-count-in-loop-i-2
+slice_bounds-row_1-count-in-loop-i-2 c =
+    -- the parts of row i lie within their lists
+    let ends : (let a = c.args in
+    let i = c.loop-i.i in
+    (get_or a.starts.now i 0 ≤ get_or a.starts.now (i + 1) 0) × (get_or a.starts.now (i + 1) 0 ≤ length a.entries.now)
+    × (get_or a.offsets.now i 0 ≤ get_or a.offsets.now (i + 1) 0) × (get_or a.offsets.now (i + 1) 0 ≤ length a.columns.now)) = both_ends c.requires.patterns c.loop-i.i (omega (arith, c.requires.patterns.same)) in
+    omega (arith, ends)
+
+pub slice_bounds-row_1-start-in-loop-i-2 : goal.slice_bounds-row_1-start-in-loop-i-2
+slice_bounds-row_1-start-in-loop-i-2 c =
+    -- the parts of row i lie within their lists
+    let ends : (let a = c.args in
+    let i = c.loop-i.i in
+    (get_or a.starts.now i 0 ≤ get_or a.starts.now (i + 1) 0) × (get_or a.starts.now (i + 1) 0 ≤ length a.entries.now)
+    × (get_or a.offsets.now i 0 ≤ get_or a.offsets.now (i + 1) 0) × (get_or a.offsets.now (i + 1) 0 ≤ length a.columns.now)) = both_ends c.requires.patterns c.loop-i.i (omega (arith, c.requires.patterns.same)) in
+    omega (arith, ends)
+
+pub slice_bounds-row_1-end-in-loop-i-2 : goal.slice_bounds-row_1-end-in-loop-i-2
+slice_bounds-row_1-end-in-loop-i-2 c =
+    -- the parts of row i lie within their lists
+    let ends : (let a = c.args in
+    let i = c.loop-i.i in
+    (get_or a.starts.now i 0 ≤ get_or a.starts.now (i + 1) 0) × (get_or a.starts.now (i + 1) 0 ≤ length a.entries.now)
+    × (get_or a.offsets.now i 0 ≤ get_or a.offsets.now (i + 1) 0) × (get_or a.offsets.now (i + 1) 0 ≤ length a.columns.now)) = both_ends c.requires.patterns c.loop-i.i (omega (arith, c.requires.patterns.same)) in
+    omega (arith, ends)
+
+pub row_1-requires : goal.row_1-requires
+unfolding row_of
+row_1-requires c =
+    -- and so do its values
+    let filled : (let a = c.args in
+    let i = c.loop-i.i in
+    (1 * 1 * get_or a.offsets.now i 0 ≤ 1 * 1 * get_or a.offsets.now (i + 1) 0)
+    × (1 * 1 * get_or a.offsets.now (i + 1) 0 ≤ length c.loop-i.values)) = let fit = c.requires in
+    let e = places fit c.loop-i.i (omega (arith, fit.patterns.same)) in
+    (e.0, omega (arith, e.1, c.loop-i.invariant.0)) in
+    let fit = c.requires in
+    let e = filled in (
+      c.loop-i.invariant.1,
+      copies fit.patterns c.loop-i.i (omega (arith, fit.patterns.same)) 1 _ fit.of_a_lem _ (part_length _ _ c.loop-i.values e.0 e.1),
+      (placed_at fit c.loop-i.i (omega (arith, fit.patterns.same))).0,
+      (placed_at fit c.loop-i.i (omega (arith, fit.patterns.same))).1,
+    )
+
+pub loop-i-preserved : goal.loop-i-preserved
+unfolding row_of
+loop-i-preserved c =
+    -- and so do its values
+    let filled : (let a = c.args in
+    let i = c.loop-i.i in
+    (1 * 1 * get_or a.offsets.now i 0 ≤ 1 * 1 * get_or a.offsets.now (i + 1) 0)
+    × (1 * 1 * get_or a.offsets.now (i + 1) 0 ≤ length c.loop-i.values)) = let fit = c.requires in
+    let e = places fit c.loop-i.i (omega (arith, fit.patterns.same)) in
+    (e.0, omega (arith, e.1, c.loop-i.invariant.0)) in
+    let a = c.args in
+    let e = filled in
+    let more : c.loop-i.i + 1 ≤ rows_of a.offsets.now = omega (arith, c.loop-i-test.true) in
+    let next = rows_more binary64 1 a.starts.now a.entries.now a.a_values.now a.offsets.now a.columns.now c.requires.patterns.valid_factor c.loop-i.i _ _ a.values.now c.loop-i.values _ _ (omega arith) refl refl
+    c.loop-i.invariant.3 c.row_1.ensures.0 refl in (
+      rows_kept binary64 1 a.starts.now a.entries.now a.a_values.now a.offsets.now a.columns.now c.requires.patterns.valid_factor (c.loop-i.i + 1) a.values.now _ more (omega (arith, e.1, c.loop-i.invariant.0)) next,
+      c.row_1.ensures.1,
+      more,
+      next,
+    )
+
+pub returns : goal.returns
+returns c =
+    let a = c.args in
+    let e : c.loop-i.i ≡ rows_of a.offsets.now = omega arith in
+    rows_all binary64 1 a.starts.now a.entries.now a.a_values.now a.offsets.now a.columns.now c.requires.patterns.valid_factor a.values.now _ c.requires.of_values (rw e at c.loop-i.invariant.3)

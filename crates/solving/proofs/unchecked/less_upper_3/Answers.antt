@@ -1,0 +1,39 @@
+-- `unchecked::less_upper_3` meets its promise: the first entry is taken away, and then the others.
+-- Assumes nothing.
+use mathlib.Core.Path.{◌≡◌, sym, ap, ◌∙◌}
+use mathlib.Core.List.{List}
+use Prim.Native.Nat.{ℕ, ◌+◌, ◌≤◌}
+use native.Mathlib.Omega.{arith}
+use lib.ListN.{length, drop}
+use lib.Ieee.{Float, binary64}
+use Rattle.solving.specs.Steps.{less_product, less_part}
+use Rattle.solving.proofs.StepLaws.{none_is, rest_is, upper_is}
+use Rattle.solving.proofs.FitLaws.{without_first, entry_stored}
+use Rattle.solving.proofs.unchecked.less_upper_3.Goals as goal
+
+pub returns-then-part-eq0 : goal.returns-then-part-eq0
+returns-then-part-eq0 c = let a = c.args in sym (none_is binary64 3 a.part.now a.first a.values.now a.x.now a.t c.if-part-eq0.true)
+
+pub less_beside_3-left-requires : goal.less_beside_3-left-requires
+less_beside_3-left-requires c =
+    -- there is a first entry
+    let some : 1 ≤ length c.args.part.now = omega arith in
+    let here : c.args.first + 0 ≡ c.args.first = omega arith in
+    (rw here at (entry_stored c.requires.0 0 some), rw c.wide.ensures (c.requires.0.seen 0 some), c.requires.1)
+
+pub less_part_3-requires : goal.less_part_3-requires
+less_part_3-requires c =
+    -- there is a first entry
+    let some : 1 ≤ length c.args.part.now = omega arith in
+    rw (rest_is c.args.part.now) (without_first c.requires.0 some)
+
+pub returns : goal.returns
+returns c =
+    -- there is a first entry
+    let some : 1 ≤ length c.args.part.now = omega arith in
+    let a = c.args in
+    let rest : List Float → List Float = less_part binary64 3 (drop 1 a.part.now) (a.first + 1) a.values.now a.x.now in
+    c.less_part_3.ensures
+    ∙ ap (λ (l : List ℕ). less_part binary64 3 l (a.first + 1) a.values.now a.x.now c.less_beside_3-left.result) (rest_is a.part.now)
+    ∙ ap rest (c.less_beside_3-left.ensures ∙ ap (λ (j : ℕ). less_product binary64 3 a.values.now a.first a.x.now j a.t) c.wide.ensures)
+    ∙ upper_is binary64 3 a.part.now a.first a.values.now a.x.now a.t some
