@@ -1,6 +1,6 @@
 # What the commands at the root need on the machine; sourced by them, not run.
 # The kit that this repository was proved with, as `rt version` prints it; README.md says the same.
-kit='rattle-kit-5b logic 064da1ca440f63e7'
+kit='rattle-kit-13f logic dac8208d650f15bf'
 
 say() { printf '%s: %s\n' "$(basename "$0")" "$*"; }
 

@@ -13,7 +13,7 @@ fn default_folder() -> PathBuf {
     Path::new(&crate_folder).join("../../target/staticlib")
 }
 
-/// The libraries, each named as its crate is.
+/// The libraries, as scripts/staticlib.sh names them.
 const LIBRARIES: [&str; 3] = ["host", "factor_host", "solver_host"];
 
 /// Links one of them, or says how it is built.
@@ -25,7 +25,7 @@ fn link(folder: &Path, name: &str) {
             "A static library of the port is not there: {}",
             library.display()
         );
-        eprintln!("Build it with `rt staticlib {name}` in the repository,");
+        eprintln!("Build it with `scripts/staticlib.sh` in the repository,");
         eprintln!("or name the folder that holds it in {FOLDER} (an absolute path).");
         exit(1);
     };

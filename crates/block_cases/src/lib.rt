@@ -1,5 +1,7 @@
 // Document 01's cases on blocks and roots: each is run by its number, and says its name, its answer and its values.
 // Nothing is printed here, so that nothing is assumed; the program `cases` goes through the numbers.
+#![tactic(auto)]
+
 use answers::Answer;
 use texts::{Text, of_bytes};
 

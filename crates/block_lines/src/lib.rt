@@ -1,5 +1,7 @@
 // The lines of the fixed list whose calls are on blocks and numbers: each is run through its entry point, and compared word for word.
 // A line's words are the call's inputs, its number and row, and its output.
+#![tactic(auto)]
+
 ghost use Rattle.std.specs.Prelude.{◌+◌, ◌*◌, ◌≤◌};
 
 use outcomes::Outcome;

@@ -1,5 +1,7 @@
 // What the program `cases` prints beside numbers: the names of calls and cases, and the line above each group.
 // A text stands here once, by the number that the program gives it.
+#![tactic(auto)]
+
 use texts::{Text, of_bytes};
 
 // The calls, up to their N.

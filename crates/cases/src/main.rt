@@ -1,5 +1,7 @@
 // Runs document 01's cases by calls of the library, and prints what each answers: the number, then values as their 64 bits.
 // Today: the pivots of cases 8 and 9, inverses and products at their edges, cases 1 to 7 and 12, and every refusal of the vector, pattern, matrix, element and fill calls.
+#![tactic(auto)]
+
 pub mod element_cases;
 pub mod fill_cases;
 pub mod matrix_cases;
@@ -9,107 +11,104 @@ pub mod vector_cases;
 use block_cases::{Shown, inverse, pivot, product, root, update};
 use case_texts::heading;
 use limits::Seen;
+use std::io;
 use texts::Text;
 
-fn print_head(bytes: &[u8], count: usize) {
+fn print_head(rt: &impl Print, bytes: &[u8], count: usize) -> io::Result<()> {
     if count <= bytes.len() {
-        io::write_all(1, &bytes[0..count]);
+        rt.write_all(&bytes[0..count])?;
     }
+    Ok(())
 }
 
-pub fn print_text(text: Text) {
+pub fn print_text(rt: &impl Print, text: Text) -> io::Result<()> {
     let bytes = text.bytes;
-    print_head(&bytes, text.count);
+    print_head(rt, &bytes, text.count)
 }
 
-fn print_value(x: f64) {
-    io::write_all(1, b" ");
-    io::print_hex(1, words::bits_of(x), 16);
+fn print_value(rt: &impl Print, x: f64) -> io::Result<()> {
+    print!(rt; " {:016x}", words::bits_of(x))
 }
 
-pub fn print_values(name: &[u8], values: &[f64]) {
-    io::write_all(1, name);
-    let mut k = 0;
-    while k < values.len() {
-        print_value(values[k]);
-        k += 1;
+pub fn print_values(rt: &impl Print, name: &[u8], values: &[f64]) -> io::Result<()> {
+    rt.write_all(name)?;
+    for x in values {
+        print_value(rt, *x)?;
     }
-    io::write_all(1, b"\n");
+    println!(rt)
 }
 
 // A number of a line of cases; a refused call that changed a word is shouted.
-pub fn print_seen(seen: Seen) {
+pub fn print_seen(rt: &impl Print, seen: Seen) -> io::Result<()> {
     let number = seen.number;
-    io::write_all(1, b" ");
-    io::print_decimal(1, number as u64);
+    print!(rt; " {number}")?;
     if number != 0 {
         if !seen.kept {
-            io::write_all(1, b" CHANGED");
+            print!(rt; " CHANGED")?;
         }
     }
+    Ok(())
 }
 
 // The first values of a case, after what stands before them.
-fn print_first(before: &[u8], values: &[f64], count: usize) {
+fn print_first(rt: &impl Print, before: &[u8], values: &[f64], count: usize) -> io::Result<()> {
     if count <= values.len() {
-        print_values(before, &values[0..count]);
+        print_values(rt, before, &values[0..count])?;
     }
+    Ok(())
 }
 
-fn print_shown(shown: Shown) {
+fn print_shown(rt: &impl Print, shown: Shown) -> io::Result<()> {
     let name = shown.name;
-    print_text(name);
+    print_text(rt, name)?;
     let values = shown.values;
-    print_first(b"", &values, shown.count);
+    print_first(rt, b"", &values, shown.count)
 }
 
-fn print_inverse(shown: Shown) {
+fn print_inverse(rt: &impl Print, shown: Shown) -> io::Result<()> {
     let name = shown.name;
-    print_text(name);
+    print_text(rt, name)?;
     let answer = shown.answer;
-    io::write_all(1, b": number ");
-    io::print_decimal(1, answer.number() as u64);
+    print!(rt; ": number {}", answer.number())?;
     if answer.number() == 9 {
-        io::write_all(1, b" row ");
-        io::print_decimal(1, answer.row() as u64);
+        print!(rt; " row {}", answer.row())?;
     }
     let values = shown.values;
-    print_first(b",", &values, shown.count);
+    print_first(rt, b",", &values, shown.count)
 }
 
-fn pivots() {
-    print_inverse(pivot(0));
-    print_shown(update(0));
-    print_shown(update(1));
-    print_inverse(pivot(1));
-    print_inverse(pivot(2));
+fn pivots(rt: &impl Print) -> io::Result<()> {
+    print_inverse(rt, pivot(0))?;
+    print_shown(rt, update(0))?;
+    print_shown(rt, update(1))?;
+    print_inverse(rt, pivot(1))?;
+    print_inverse(rt, pivot(2))
 }
 
-fn inverses() {
-    let mut case = 0;
-    while case < 9 {
-        print_inverse(inverse(case));
-        case += 1;
+fn inverses(rt: &impl Print) -> io::Result<()> {
+    for case in 0..9 {
+        print_inverse(rt, inverse(case))?;
     }
+    Ok(())
 }
 
-fn products_and_roots() {
-    print_shown(product(0));
-    print_shown(product(1));
-    print_shown(product(2));
-    print_shown(product(3));
-    print_shown(root(0));
-    print_shown(root(1));
+fn products_and_roots(rt: &impl Print) -> io::Result<()> {
+    print_shown(rt, product(0))?;
+    print_shown(rt, product(1))?;
+    print_shown(rt, product(2))?;
+    print_shown(rt, product(3))?;
+    print_shown(rt, root(0))?;
+    print_shown(rt, root(1))
 }
 
-fn main() {
-    print_text(heading(0));
-    pivots();
-    inverses();
-    products_and_roots();
-    vector_cases::run();
-    pattern_cases::run();
-    matrix_cases::run();
-    element_cases::run();
-    fill_cases::run();
+fn main(rt: HostRuntime) -> io::Result<()> {
+    print_text(&rt, heading(0))?;
+    pivots(&rt)?;
+    inverses(&rt)?;
+    products_and_roots(&rt)?;
+    vector_cases::run(&rt)?;
+    pattern_cases::run(&rt)?;
+    matrix_cases::run(&rt)?;
+    element_cases::run(&rt)?;
+    fill_cases::run(&rt)
 }

@@ -3,20 +3,19 @@
 use crate::{print_seen, print_text, print_values};
 use case_texts::{heading, matrix_call};
 use matrix_limits::{fixed_pair, product, product_over_infinity, try_case};
+use std::io;
 
-fn print_name(call: usize, dim: usize) {
-    print_text(matrix_call(call));
-    io::print_decimal(1, dim as u64);
-    io::write_all(1, b":");
+fn print_name(rt: &impl Print, call: usize, dim: usize) -> io::Result<()> {
+    print_text(rt, matrix_call(call))?;
+    print!(rt; "{dim}:")
 }
 
 // The cases from one number to below another.
-fn print_cases(call: usize, dim: usize, from: usize, to: usize) {
-    let mut case = from;
-    while case < to {
-        print_seen(try_case(call, dim, case));
-        case += 1;
+fn print_cases(rt: &impl Print, call: usize, dim: usize, from: usize, to: usize) -> io::Result<()> {
+    for case in from..to {
+        print_seen(rt, try_case(call, dim, case))?;
     }
+    Ok(())
 }
 
 // The first case past those of a call's slices.
@@ -28,66 +27,66 @@ fn slices_end(call: usize) -> usize {
     }
 }
 
-fn print_refusals(call: usize, dim: usize) {
-    print_name(call, dim);
-    print_cases(call, dim, 0, slices_end(call));
-    print_cases(call, dim, 9, 12);
-    io::write_all(1, b"\n");
+fn print_refusals(rt: &impl Print, call: usize, dim: usize) -> io::Result<()> {
+    print_name(rt, call, dim)?;
+    print_cases(rt, call, dim, 0, slices_end(call))?;
+    print_cases(rt, call, dim, 9, 12)?;
+    println!(rt)
 }
 
-fn print_sizes(call: usize, dim: usize) {
-    print_name(call, dim);
-    print_cases(call, dim, 12, 14);
+fn print_sizes(rt: &impl Print, call: usize, dim: usize) -> io::Result<()> {
+    print_name(rt, call, dim)?;
+    print_cases(rt, call, dim, 12, 14)?;
     if dim == 1 {
-        print_cases(call, dim, 14, 16);
+        print_cases(rt, call, dim, 14, 16)?;
     }
-    io::write_all(1, b"\n");
+    println!(rt)
 }
 
-fn refusals() {
-    print_text(heading(3));
-    let mut call = 0;
-    while call < 3 {
-        print_refusals(call, 1);
-        print_refusals(call, 2);
-        print_refusals(call, 3);
-        call += 1;
+fn refusals(rt: &impl Print) -> io::Result<()> {
+    print_text(rt, heading(3))?;
+    for call in 0..3 {
+        print_refusals(rt, call, 1)?;
+        print_refusals(rt, call, 2)?;
+        print_refusals(rt, call, 3)?;
     }
+    Ok(())
 }
 
-fn sizes() {
-    print_text(heading(4));
-    let mut call = 0;
-    while call < 3 {
-        print_sizes(call, 1);
-        print_sizes(call, 2);
-        print_sizes(call, 3);
-        call += 1;
+fn sizes(rt: &impl Print) -> io::Result<()> {
+    print_text(rt, heading(4))?;
+    for call in 0..3 {
+        print_sizes(rt, call, 1)?;
+        print_sizes(rt, call, 2)?;
+        print_sizes(rt, call, 3)?;
     }
+    Ok(())
 }
 
-fn values() {
-    print_values(b"mult_vec_1 of two rows:", &product());
+fn values(rt: &impl Print) -> io::Result<()> {
+    print_values(rt, b"mult_vec_1 of two rows:", &product())?;
     print_values(
+        rt,
         b"mult_vec_1, beta 0 over an infinity:",
         &product_over_infinity(),
-    );
+    )
 }
 
-fn fixed() {
+fn fixed(rt: &impl Print) -> io::Result<()> {
     let pair = fixed_pair();
     let diagonal = pair.diagonal;
     let values = pair.values;
     print_values(
+        rt,
         b"set_fixed_bc_2 of two rows by flags 0, -1, 0, 0, diagonal:",
         &diagonal,
-    );
-    print_values(b"its entries:", &values);
+    )?;
+    print_values(rt, b"its entries:", &values)
 }
 
-pub fn run() {
-    refusals();
-    sizes();
-    values();
-    fixed();
+pub fn run(rt: &impl Print) -> io::Result<()> {
+    refusals(rt)?;
+    sizes(rt)?;
+    values(rt)?;
+    fixed(rt)
 }

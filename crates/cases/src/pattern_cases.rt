@@ -3,55 +3,47 @@
 use crate::print_text;
 use case_texts::heading;
 use limits::pattern_cases::{try_columns, try_factor, try_rows, try_rule};
+use std::io;
 
-fn print_numbers(pattern: u32, entries: u32) {
-    io::write_all(1, b": ");
-    io::print_decimal(1, pattern as u64);
-    io::write_all(1, b" ");
-    io::print_decimal(1, entries as u64);
-    io::write_all(1, b"\n");
+fn print_numbers(rt: &impl Print, pattern: u32, entries: u32) -> io::Result<()> {
+    println!(rt; ": {pattern} {entries}")
 }
 
-fn rules() {
-    let mut case = 0;
-    while case < 10 {
-        print_text(case_texts::rule(case));
-        print_numbers(try_rule(false, case), try_rule(true, case));
-        case += 1;
+fn rules(rt: &impl Print) -> io::Result<()> {
+    for case in 0..10 {
+        print_text(rt, case_texts::rule(case))?;
+        print_numbers(rt, try_rule(false, case), try_rule(true, case))?;
     }
+    Ok(())
 }
 
-fn rows() {
-    let mut case = 0;
-    while case < 5 {
-        print_text(case_texts::rows(case));
-        print_numbers(try_rows(false, case), try_rows(true, case));
-        case += 1;
+fn rows(rt: &impl Print) -> io::Result<()> {
+    for case in 0..5 {
+        print_text(rt, case_texts::rows(case))?;
+        print_numbers(rt, try_rows(false, case), try_rows(true, case))?;
     }
+    Ok(())
 }
 
-fn columns() {
-    io::write_all(1, b"65535 columns");
-    print_numbers(try_columns(false, 0), try_columns(true, 0));
-    io::write_all(1, b"65536 columns");
-    print_numbers(try_columns(false, 1), try_columns(true, 1));
+fn columns(rt: &impl Print) -> io::Result<()> {
+    print!(rt; "65535 columns")?;
+    print_numbers(rt, try_columns(false, 0), try_columns(true, 0))?;
+    print!(rt; "65536 columns")?;
+    print_numbers(rt, try_columns(false, 1), try_columns(true, 1))
 }
 
-fn factors() {
-    let mut case = 0;
-    while case < 5 {
-        print_text(case_texts::factor(case));
-        io::write_all(1, b": ");
-        io::print_decimal(1, try_factor(case) as u64);
-        io::write_all(1, b"\n");
-        case += 1;
+fn factors(rt: &impl Print) -> io::Result<()> {
+    for case in 0..5 {
+        print_text(rt, case_texts::factor(case))?;
+        println!(rt; ": {}", try_factor(case))?;
     }
+    Ok(())
 }
 
-pub fn run() {
-    print_text(heading(2));
-    rules();
-    rows();
-    columns();
-    factors();
+pub fn run(rt: &impl Print) -> io::Result<()> {
+    print_text(rt, heading(2))?;
+    rules(rt)?;
+    rows(rt)?;
+    columns(rt)?;
+    factors(rt)
 }

@@ -1,5 +1,7 @@
 // The calls that add an element, merge, csrdia and blkcsr (0, 1, 2), at their limits: a function runs one case, by its number.
 // The matrix has 8 rows that name all others, for blkcsr also themselves, then as many rows and columns as may be, and one more.
+#![tactic(auto)]
+
 ghost use Rattle.std.specs.Prelude.{◌≤◌, ◌+◌};
 
 use limits::Seen;

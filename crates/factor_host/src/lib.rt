@@ -1,5 +1,7 @@
 // The entry points of the factor's calls, on numbers and lent byte slices, with N as a number: 8 bytes to a value, 4 to an index, the low byte first.
 // All work is in the crates below; here an answer becomes an outcome. Only `decompose` answers 9, with its row. A library of its own, to be linked beside that of `host`.
+#![tactic(auto)]
+
 pub mod timed;
 pub mod unchecked;
 

@@ -1,5 +1,7 @@
 // The calls on a factor, copy_value, decompose and solve_preconditioning_vec (0, 1, 2), at their limits: a function runs one case, by its number.
 // Nothing is printed here, so that nothing is assumed; the program `factor_cases` goes through the numbers.
+#![tactic(auto)]
+
 ghost use Rattle.std.specs.Prelude.{◌≤◌, ◌+◌};
 
 use factor_shapes::{

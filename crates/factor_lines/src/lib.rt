@@ -1,5 +1,6 @@
 // The lines of the fixed list whose calls work on the values of a factor: each is run and compared word for word.
 // A line's words are the count of each slice, the call's slices in its order, its number and row, and what it leaves.
+#![tactic(auto)]
 
 ghost use Rattle.std.specs.Prelude.{◌≤◌};
 

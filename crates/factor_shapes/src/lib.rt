@@ -2,6 +2,8 @@
 // Shapes: 0 right; 1 an own column; 2 an unsorted row; 3 and 4 a split too low, too high; 5 that and an own column; 6 and 7 have 4,096 and 4,097 rows without a column;
 // 8 and 9 have 65,535 and 65,536 columns in 257 rows; 10 lacks an entry of shape 0; 11 that and a wrong split; 12 two rows; 13 an own column and one offset;
 // 14 a column twice; 15 an offset that falls; 16 no offset.
+#![tactic(auto)]
+
 ghost use Rattle.std.specs.Prelude.{◌≤◌};
 
 use limits::sizes::{values_a_block, values_a_row};

@@ -1,5 +1,7 @@
 // The fill calls, initialize_ilu0, initialize_full and initialize_iluk (0, 1, 2), at their limits and on large patterns: a function runs one case, by its number.
 // Every lent word is dirty before a call. Nothing is printed here, so that nothing is assumed.
+#![tactic(auto)]
+
 pub mod plates;
 pub mod small;
 pub mod words;

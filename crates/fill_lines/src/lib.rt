@@ -1,5 +1,7 @@
 // The lines of the fixed list whose calls write a pattern: each is run and compared word for word. No call here has an N.
 // A line's words are the count of each slice, then the call's numbers and slices in its order, its number and row, and what it leaves.
+#![tactic(auto)]
+
 pub mod written;
 
 ghost use Rattle.std.specs.Prelude.{◌≤◌};

@@ -15,8 +15,7 @@ ghost use Rattle.outcomes.specs.Calls.{Finished};
 use outcomes::{Outcome, rowless};
 
 // The same node place goes to the diagonal, other pairs to the entry.
-#[unsafe(no_mangle)]
-pub extern "C" fn pierbramble_merge(
+pub fn pierbramble_merge(
     dim: u32,
     nodes: &[u8],
     element: &[u8],
@@ -36,8 +35,7 @@ pub extern "C" fn pierbramble_merge(
 }
 
 // Equal row and column numbers, not places, go to the diagonal. N is 1.
-#[unsafe(no_mangle)]
-pub extern "C" fn pierbramble_csrdia(
+pub fn pierbramble_csrdia(
     rows: &[u8],
     cols: &[u8],
     element: &[u8],
@@ -57,8 +55,7 @@ pub extern "C" fn pierbramble_csrdia(
 }
 
 // Every pair goes to an entry, own column included.
-#[unsafe(no_mangle)]
-pub extern "C" fn pierbramble_blkcsr(
+pub fn pierbramble_blkcsr(
     dim: u32,
     rows: &[u8],
     cols: &[u8],

@@ -11,8 +11,7 @@ ghost use Rattle.fill_bytes.specs.Checks.{full_byte_checks, ilu0_byte_checks, il
 use outcomes::{Outcome, rowless};
 
 // All other columns of each of n rows.
-#[unsafe(no_mangle)]
-pub extern "C" fn pierbramble_initialize_full(
+pub fn pierbramble_initialize_full(
     n: u32,
     offsets: &mut [u8],
     columns: &mut [u8],
@@ -26,8 +25,7 @@ pub extern "C" fn pierbramble_initialize_full(
 }
 
 // The rows of A sorted, with their splits.
-#[unsafe(no_mangle)]
-pub extern "C" fn pierbramble_initialize_ilu0(
+pub fn pierbramble_initialize_ilu0(
     starts: &[u8],
     entries: &[u8],
     offsets: &mut [u8],
@@ -42,8 +40,7 @@ pub extern "C" fn pierbramble_initialize_ilu0(
 }
 
 // The fill of A at level k.
-#[unsafe(no_mangle)]
-pub extern "C" fn pierbramble_initialize_iluk(
+pub fn pierbramble_initialize_iluk(
     starts: &[u8],
     entries: &[u8],
     k: u32,
@@ -60,8 +57,7 @@ pub extern "C" fn pierbramble_initialize_iluk(
     rowless(fill_bytes::initialize_iluk(starts, entries, k, offsets, columns, splits, levels, row))
 }
 
-#[unsafe(no_mangle)]
-pub extern "C" fn pierbramble_timed_initialize_full(
+pub fn pierbramble_timed_initialize_full(
     n: u32,
     offsets: &mut [u32],
     columns: &mut [u32],
@@ -74,8 +70,7 @@ pub extern "C" fn pierbramble_timed_initialize_full(
     full::initialize_full(n, offsets, columns, splits).number()
 }
 
-#[unsafe(no_mangle)]
-pub extern "C" fn pierbramble_timed_initialize_ilu0(
+pub fn pierbramble_timed_initialize_ilu0(
     starts: &[u32],
     entries: &[u32],
     offsets: &mut [u32],
@@ -89,8 +84,7 @@ pub extern "C" fn pierbramble_timed_initialize_ilu0(
     ilu0::initialize_ilu0(starts, entries, offsets, columns, splits).number()
 }
 
-#[unsafe(no_mangle)]
-pub extern "C" fn pierbramble_timed_initialize_iluk(
+pub fn pierbramble_timed_initialize_iluk(
     starts: &[u32],
     entries: &[u32],
     k: u32,

@@ -1,5 +1,7 @@
 // The entry points for a host: every call of the crates below, on numbers and lent byte slices, with N as a number.
 // A value is 8 bytes, an index or a flag 4, a level 2, the low byte first. Bytes that are not those of the words that a call has at N are 2, and nothing has changed.
+#![tactic(auto)]
+
 pub mod element_calls;
 pub mod fill_calls;
 pub mod matrix_calls;
@@ -25,24 +27,21 @@ ghost use Rattle.outcomes.specs.Calls.{◌bytes_for◌, Answered, Checked};
 use outcomes::{Outcome, outcome_of};
 
 // The root of x.
-#[unsafe(no_mangle)]
-pub extern "C" fn pierbramble_square_root(x: f64) -> f64
+pub fn pierbramble_square_root(x: f64) -> f64
     ensures { result ≡ sqrt binary64 x }
 {
     root::square_root(x)
 }
 
 // The checks of a call that is given n and one vector.
-#[unsafe(no_mangle)]
-pub extern "C" fn pierbramble_check_vector(n: u32, dim: u32, length: usize) -> Outcome
+pub fn pierbramble_check_vector(n: u32, dim: u32, length: usize) -> Outcome
     ensures { Checked (vector_checks n dim length) result }
 {
     outcome_of(answers::check_vector(n, dim, length))
 }
 
 // Block times vector.
-#[unsafe(no_mangle)]
-pub extern "C" fn pierbramble_apply(dim: u32, a: &[u8], x: &[u8], out: &mut [u8]) -> Outcome
+pub fn pierbramble_apply(dim: u32, a: &[u8], x: &[u8], out: &mut [u8]) -> Outcome
     ensures { Answered binary64 dim ((length a.now bytes_for dim * dim) ∷ (length x.now bytes_for dim) ∷ (length out.old bytes_for dim) ∷ [])
         [] (applied binary64 dim (values_in binary64 a.now) (values_in binary64 x.now))
         out.old out.new result }
@@ -51,8 +50,7 @@ pub extern "C" fn pierbramble_apply(dim: u32, a: &[u8], x: &[u8], out: &mut [u8]
 }
 
 // The product of two blocks.
-#[unsafe(no_mangle)]
-pub extern "C" fn pierbramble_product(dim: u32, a: &[u8], b: &[u8], out: &mut [u8]) -> Outcome
+pub fn pierbramble_product(dim: u32, a: &[u8], b: &[u8], out: &mut [u8]) -> Outcome
     ensures { Answered binary64 dim ((length a.now bytes_for dim * dim) ∷ (length b.now bytes_for dim * dim) ∷ (length out.old bytes_for dim * dim) ∷ [])
         [] (product binary64 dim (values_in binary64 a.now) (values_in binary64 b.now))
         out.old out.new result }
@@ -61,8 +59,7 @@ pub extern "C" fn pierbramble_product(dim: u32, a: &[u8], b: &[u8], out: &mut [u
 }
 
 // A vector, scaled by s.
-#[unsafe(no_mangle)]
-pub extern "C" fn pierbramble_scale(dim: u32, v: &[u8], s: f64, out: &mut [u8]) -> Outcome
+pub fn pierbramble_scale(dim: u32, v: &[u8], s: f64, out: &mut [u8]) -> Outcome
     ensures { Answered binary64 dim ((length v.now bytes_for dim) ∷ (length out.old bytes_for dim) ∷ [])
         [] (scaled binary64 dim (values_in binary64 v.now) s)
         out.old out.new result }
@@ -71,8 +68,7 @@ pub extern "C" fn pierbramble_scale(dim: u32, v: &[u8], s: f64, out: &mut [u8]) 
 }
 
 // The sum of two vectors.
-#[unsafe(no_mangle)]
-pub extern "C" fn pierbramble_add(dim: u32, u: &[u8], v: &[u8], out: &mut [u8]) -> Outcome
+pub fn pierbramble_add(dim: u32, u: &[u8], v: &[u8], out: &mut [u8]) -> Outcome
     ensures { Answered binary64 dim ((length u.now bytes_for dim) ∷ (length v.now bytes_for dim) ∷ (length out.old bytes_for dim) ∷ [])
         [] (added binary64 dim (values_in binary64 u.now) (values_in binary64 v.now))
         out.old out.new result }
@@ -81,8 +77,7 @@ pub extern "C" fn pierbramble_add(dim: u32, u: &[u8], v: &[u8], out: &mut [u8]) 
 }
 
 // The difference of two vectors.
-#[unsafe(no_mangle)]
-pub extern "C" fn pierbramble_subtract(dim: u32, u: &[u8], v: &[u8], out: &mut [u8]) -> Outcome
+pub fn pierbramble_subtract(dim: u32, u: &[u8], v: &[u8], out: &mut [u8]) -> Outcome
     ensures { Answered binary64 dim ((length u.now bytes_for dim) ∷ (length v.now bytes_for dim) ∷ (length out.old bytes_for dim) ∷ [])
         [] (subtracted binary64 dim (values_in binary64 u.now) (values_in binary64 v.now))
         out.old out.new result }
@@ -91,8 +86,7 @@ pub extern "C" fn pierbramble_subtract(dim: u32, u: &[u8], v: &[u8], out: &mut [
 }
 
 // The sum of two blocks.
-#[unsafe(no_mangle)]
-pub extern "C" fn pierbramble_add_block(dim: u32, u: &[u8], v: &[u8], out: &mut [u8]) -> Outcome
+pub fn pierbramble_add_block(dim: u32, u: &[u8], v: &[u8], out: &mut [u8]) -> Outcome
     ensures { Answered binary64 dim ((length u.now bytes_for dim * dim) ∷ (length v.now bytes_for dim * dim) ∷ (length out.old bytes_for dim * dim) ∷ [])
         [] (added binary64 (dim * dim) (values_in binary64 u.now) (values_in binary64 v.now))
         out.old out.new result }
@@ -101,13 +95,7 @@ pub extern "C" fn pierbramble_add_block(dim: u32, u: &[u8], v: &[u8], out: &mut 
 }
 
 // The difference of two blocks.
-#[unsafe(no_mangle)]
-pub extern "C" fn pierbramble_subtract_block(
-    dim: u32,
-    u: &[u8],
-    v: &[u8],
-    out: &mut [u8],
-) -> Outcome
+pub fn pierbramble_subtract_block(dim: u32, u: &[u8], v: &[u8], out: &mut [u8]) -> Outcome
     ensures { Answered binary64 dim ((length u.now bytes_for dim * dim) ∷ (length v.now bytes_for dim * dim) ∷ (length out.old bytes_for dim * dim) ∷ [])
         [] (subtracted binary64 (dim * dim) (values_in binary64 u.now) (values_in binary64 v.now))
         out.old out.new result }
@@ -116,8 +104,7 @@ pub extern "C" fn pierbramble_subtract_block(
 }
 
 // The inverse of a block, or 9 and the block as given.
-#[unsafe(no_mangle)]
-pub extern "C" fn pierbramble_inverse(dim: u32, a: &[u8], out: &mut [u8]) -> Outcome
+pub fn pierbramble_inverse(dim: u32, a: &[u8], out: &mut [u8]) -> Outcome
     ensures { Answered binary64 dim ((length a.now bytes_for dim * dim) ∷ (length out.old bytes_for dim * dim) ∷ [])
         ((9 when singular binary64 dim (values_in binary64 a.now)) ∷ []) (inverse_or binary64 dim (values_in binary64 a.now))
         out.old out.new result }

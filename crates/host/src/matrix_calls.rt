@@ -16,8 +16,7 @@ ghost use Rattle.outcomes.specs.Calls.{Finished};
 use outcomes::{Outcome, rowless};
 
 // y scaled by beta, plus alpha times the matrix times x.
-#[unsafe(no_mangle)]
-pub extern "C" fn pierbramble_mult_vec(
+pub fn pierbramble_mult_vec(
     dim: u32,
     offsets: &[u8],
     columns: &[u8],
@@ -37,8 +36,7 @@ pub extern "C" fn pierbramble_mult_vec(
 }
 
 // All values become +0.
-#[unsafe(no_mangle)]
-pub extern "C" fn pierbramble_matrix_set_zero(
+pub fn pierbramble_matrix_set_zero(
     dim: u32,
     offsets: &[u8],
     columns: &[u8],
@@ -54,8 +52,7 @@ pub extern "C" fn pierbramble_matrix_set_zero(
 }
 
 // Fixed values leave the matrix, with val_dia on its diagonal.
-#[unsafe(no_mangle)]
-pub extern "C" fn pierbramble_set_fixed_bc(
+pub fn pierbramble_set_fixed_bc(
     dim: u32,
     val_dia: f64,
     flags: &[u8],

@@ -11,8 +11,7 @@ ghost use Rattle.outcomes.specs.Calls.{Checked, Finished};
 use outcomes::{Outcome, rowless};
 
 // Whether a pattern of A is valid.
-#[unsafe(no_mangle)]
-pub extern "C" fn pierbramble_check_pattern(offsets: &[u8], columns: &[u8]) -> Outcome
+pub fn pierbramble_check_pattern(offsets: &[u8], columns: &[u8]) -> Outcome
     ensures { Checked (byte_checks (length offsets.now) (length columns.now) (broken_pattern (length offsets.now) (length columns.now))
         ++ pattern_checks (indexes_in offsets.now) (indexes_in columns.now)) result }
 {
@@ -20,8 +19,7 @@ pub extern "C" fn pierbramble_check_pattern(offsets: &[u8], columns: &[u8]) -> O
 }
 
 // Whether one is in which a row's own column may stand.
-#[unsafe(no_mangle)]
-pub extern "C" fn pierbramble_check_entries(offsets: &[u8], columns: &[u8]) -> Outcome
+pub fn pierbramble_check_entries(offsets: &[u8], columns: &[u8]) -> Outcome
     ensures { Checked (byte_checks (length offsets.now) (length columns.now) (broken_pattern (length offsets.now) (length columns.now))
         ++ entries_checks (indexes_in offsets.now) (indexes_in columns.now)) result }
 {
@@ -29,8 +27,7 @@ pub extern "C" fn pierbramble_check_entries(offsets: &[u8], columns: &[u8]) -> O
 }
 
 // Whether a factor pattern is.
-#[unsafe(no_mangle)]
-pub extern "C" fn pierbramble_check_factor(offsets: &[u8], columns: &[u8], splits: &[u8]) -> Outcome
+pub fn pierbramble_check_factor(offsets: &[u8], columns: &[u8], splits: &[u8]) -> Outcome
     ensures { Checked (byte_checks (length offsets.now) (length columns.now) (broken_factor (length offsets.now) (length columns.now) (length splits.now))
         ++ factor_checks (indexes_in offsets.now) (indexes_in columns.now) (indexes_in splits.now)) result }
 {
@@ -38,16 +35,14 @@ pub extern "C" fn pierbramble_check_factor(offsets: &[u8], columns: &[u8], split
 }
 
 // A row's columns in rising order.
-#[unsafe(no_mangle)]
-pub extern "C" fn pierbramble_sort_row(columns: &mut [u8]) -> Outcome
+pub fn pierbramble_sort_row(columns: &mut [u8]) -> Outcome
     ensures { (Finished (row_checks (length columns.old)) result.number
         (bytes_of_indexes (sort_of (indexes_in columns.old))) columns.old columns.new) × (result.row ≡ 0) }
 {
     rowless(pattern_bytes::sort_row(columns))
 }
 
-#[unsafe(no_mangle)]
-pub extern "C" fn pierbramble_timed_check_pattern(offsets: &[u32], columns: &[u32]) -> u32
+pub fn pierbramble_timed_check_pattern(offsets: &[u32], columns: &[u32]) -> u32
     ensures { result ≡ first_of (pattern_checks offsets.now columns.now) }
 {
     patterns::check_pattern(offsets, columns).number()

@@ -7,8 +7,7 @@ ghost use Rattle.elements.specs.Checks.{merge_checks};
 ghost use Rattle.numbered.specs.Checks.{dim_checks};
 ghost use Rattle.outcomes.specs.Calls.{Finished};
 
-#[unsafe(no_mangle)]
-pub extern "C" fn pierbramble_timed_merge(
+pub fn pierbramble_timed_merge(
     dim: u32,
     nodes: &[u32],
     element: &[f64],

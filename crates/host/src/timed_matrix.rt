@@ -9,8 +9,7 @@ ghost use Rattle.fixing.specs.Fixing.{fix_diagonal, fix_values};
 ghost use Rattle.numbered.specs.Checks.{dim_checks};
 ghost use Rattle.outcomes.specs.Calls.{Finished};
 
-#[unsafe(no_mangle)]
-pub extern "C" fn pierbramble_timed_mult_vec(
+pub fn pierbramble_timed_mult_vec(
     dim: u32,
     offsets: &[u32],
     columns: &[u32],
@@ -29,8 +28,7 @@ pub extern "C" fn pierbramble_timed_mult_vec(
     numbered::mult_vec(dim, offsets, columns, values, diagonal, y, beta, alpha, x).number()
 }
 
-#[unsafe(no_mangle)]
-pub extern "C" fn pierbramble_timed_set_fixed_bc(
+pub fn pierbramble_timed_set_fixed_bc(
     dim: u32,
     val_dia: f64,
     flags: &[i32],

@@ -9,23 +9,20 @@ ghost use Rattle.outcomes.specs.Sums.{FinishedSum};
 
 use outcomes::{Summed, summed_of};
 
-#[unsafe(no_mangle)]
-pub extern "C" fn pierbramble_timed_set_zero(dim: u32, n: u32, p: &mut [f64]) -> u32
+pub fn pierbramble_timed_set_zero(dim: u32, n: u32, p: &mut [f64]) -> u32
     ensures { Finished (call_checks n dim (words 1 (length p.old) ∷ [])) result (zeroed binary64 p.old) p.old p.new }
 {
     vector_bytes::numbered::set_zero(dim, n, p).number()
 }
 
-#[unsafe(no_mangle)]
-pub extern "C" fn pierbramble_timed_copy(dim: u32, n: u32, p: &mut [f64], u: &[f64]) -> u32
+pub fn pierbramble_timed_copy(dim: u32, n: u32, p: &mut [f64], u: &[f64]) -> u32
     ensures { Finished (call_checks n dim (words 1 (length p.old) ∷ words 1 (length u.now) ∷ [])) result
         (copied u.now p.old) p.old p.new }
 {
     vector_bytes::numbered::copy(dim, n, p, u).number()
 }
 
-#[unsafe(no_mangle)]
-pub extern "C" fn pierbramble_timed_add_scaled_vector(
+pub fn pierbramble_timed_add_scaled_vector(
     dim: u32,
     n: u32,
     u: &mut [f64],
@@ -38,8 +35,7 @@ pub extern "C" fn pierbramble_timed_add_scaled_vector(
     vector_bytes::numbered::add_scaled_vector(dim, n, u, alpha, p).number()
 }
 
-#[unsafe(no_mangle)]
-pub extern "C" fn pierbramble_timed_scale_and_add_vec(
+pub fn pierbramble_timed_scale_and_add_vec(
     dim: u32,
     n: u32,
     p: &mut [f64],
@@ -52,21 +48,14 @@ pub extern "C" fn pierbramble_timed_scale_and_add_vec(
     vector_bytes::numbered::scale_and_add_vec(dim, n, p, beta, r).number()
 }
 
-#[unsafe(no_mangle)]
-pub extern "C" fn pierbramble_timed_set_fixed(
-    dim: u32,
-    n: u32,
-    values: &mut [f64],
-    flags: &[i32],
-) -> u32
+pub fn pierbramble_timed_set_fixed(dim: u32, n: u32, values: &mut [f64], flags: &[i32]) -> u32
     ensures { Finished (call_checks n dim (words 1 (length values.old) ∷ words 1 (length flags.now) ∷ [])) result
         (fixed binary64 flags.now values.old) values.old values.new }
 {
     vector_bytes::numbered::set_fixed(dim, n, values, flags).number()
 }
 
-#[unsafe(no_mangle)]
-pub extern "C" fn pierbramble_timed_dot(dim: u32, n: u32, v0: &[f64], v1: &[f64]) -> Summed
+pub fn pierbramble_timed_dot(dim: u32, n: u32, v0: &[f64], v1: &[f64]) -> Summed
     ensures { FinishedSum binary64 (call_checks n dim (words 1 (length v0.now) ∷ words 1 (length v1.now) ∷ []))
         (dot_to binary64 dim v0.now v1.now n) result }
 {

@@ -14,8 +14,7 @@ ghost use Rattle.elements.specs.Fits.{AssemblyFits};
 use elements::unchecked::{Rule, assemble};
 
 // y scaled by beta, plus alpha times the matrix times x.
-#[unsafe(no_mangle)]
-pub extern "C" fn pierbramble_unchecked_mult_vec(
+pub fn pierbramble_unchecked_mult_vec(
     dim: u32,
     offsets: &[u32],
     columns: &[u32],
@@ -43,8 +42,7 @@ pub extern "C" fn pierbramble_unchecked_mult_vec(
 }
 
 // The answer is dropped: the benchmark's nodes and pairs are all in the pattern.
-#[unsafe(no_mangle)]
-pub extern "C" fn pierbramble_unchecked_merge(
+pub fn pierbramble_unchecked_merge(
     dim: u32,
     nodes: &[u32],
     element: &[f64],

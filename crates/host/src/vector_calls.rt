@@ -12,8 +12,7 @@ ghost use Rattle.outcomes.specs.Sums.{FinishedSum};
 use outcomes::{Outcome, Summed, rowless, summed_of};
 
 // Each value becomes +0.
-#[unsafe(no_mangle)]
-pub extern "C" fn pierbramble_set_zero(dim: u32, n: u32, p: &mut [u8]) -> Outcome
+pub fn pierbramble_set_zero(dim: u32, n: u32, p: &mut [u8]) -> Outcome
     ensures { (Finished (call_checks n dim (words 8 (length p.old) ∷ [])) result.number
         (bytes_of binary64 (zeroed binary64 (values_in binary64 p.old))) p.old p.new) × (result.row ≡ 0) }
 {
@@ -21,8 +20,7 @@ pub extern "C" fn pierbramble_set_zero(dim: u32, n: u32, p: &mut [u8]) -> Outcom
 }
 
 // p becomes u.
-#[unsafe(no_mangle)]
-pub extern "C" fn pierbramble_copy(dim: u32, n: u32, p: &mut [u8], u: &[u8]) -> Outcome
+pub fn pierbramble_copy(dim: u32, n: u32, p: &mut [u8], u: &[u8]) -> Outcome
     ensures { (Finished (call_checks n dim (words 8 (length p.old) ∷ words 8 (length u.now) ∷ [])) result.number
         (bytes_of binary64 (copied (values_in binary64 u.now) (values_in binary64 p.old))) p.old p.new) × (result.row ≡ 0) }
 {
@@ -30,8 +28,7 @@ pub extern "C" fn pierbramble_copy(dim: u32, n: u32, p: &mut [u8], u: &[u8]) -> 
 }
 
 // u becomes u + p * alpha.
-#[unsafe(no_mangle)]
-pub extern "C" fn pierbramble_add_scaled_vector(
+pub fn pierbramble_add_scaled_vector(
     dim: u32,
     n: u32,
     u: &mut [u8],
@@ -45,14 +42,7 @@ pub extern "C" fn pierbramble_add_scaled_vector(
 }
 
 // p becomes r + p * beta.
-#[unsafe(no_mangle)]
-pub extern "C" fn pierbramble_scale_and_add_vec(
-    dim: u32,
-    n: u32,
-    p: &mut [u8],
-    beta: f64,
-    r: &[u8],
-) -> Outcome
+pub fn pierbramble_scale_and_add_vec(dim: u32, n: u32, p: &mut [u8], beta: f64, r: &[u8]) -> Outcome
     ensures { (Finished (call_checks n dim (words 8 (length p.old) ∷ words 8 (length r.now) ∷ [])) result.number
         (bytes_of binary64 (scale_add binary64 beta (values_in binary64 r.now) (values_in binary64 p.old))) p.old p.new) × (result.row ≡ 0) }
 {
@@ -60,13 +50,7 @@ pub extern "C" fn pierbramble_scale_and_add_vec(
 }
 
 // Fixed values become +0.
-#[unsafe(no_mangle)]
-pub extern "C" fn pierbramble_set_fixed(
-    dim: u32,
-    n: u32,
-    values: &mut [u8],
-    flags: &[u8],
-) -> Outcome
+pub fn pierbramble_set_fixed(dim: u32, n: u32, values: &mut [u8], flags: &[u8]) -> Outcome
     ensures { (Finished (call_checks n dim (words 8 (length values.old) ∷ words 4 (length flags.now) ∷ [])) result.number
         (bytes_of binary64 (fixed binary64 (flags_in flags.now) (values_in binary64 values.old))) values.old values.new) × (result.row ≡ 0) }
 {
@@ -74,8 +58,7 @@ pub extern "C" fn pierbramble_set_fixed(
 }
 
 // The same on a right side, where flags may be longer.
-#[unsafe(no_mangle)]
-pub extern "C" fn pierbramble_set_fix_dof_to_rhs_vector(
+pub fn pierbramble_set_fix_dof_to_rhs_vector(
     dim: u32,
     n: u32,
     rhs: &mut [u8],
@@ -88,8 +71,7 @@ pub extern "C" fn pierbramble_set_fix_dof_to_rhs_vector(
 }
 
 // The dot product.
-#[unsafe(no_mangle)]
-pub extern "C" fn pierbramble_dot(dim: u32, n: u32, v0: &[u8], v1: &[u8]) -> Summed
+pub fn pierbramble_dot(dim: u32, n: u32, v0: &[u8], v1: &[u8]) -> Summed
     ensures { FinishedSum binary64 (call_checks n dim (words 8 (length v0.now) ∷ words 8 (length v1.now) ∷ []))
         (dot_to binary64 dim (values_in binary64 v0.now) (values_in binary64 v1.now) n) result }
 {

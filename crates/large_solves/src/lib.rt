@@ -1,5 +1,7 @@
 // Both solvers, conjugate_gradient and preconditioned_conjugate_gradient (0, 1), on 4,096 rows in a ring, with a factor that has no entries.
 // The vectors are too long to be shown: all their words are folded into one, and the history is shown. Nothing is printed here, so that nothing is assumed.
+#![tactic(auto)]
+
 use limits::filled::fill;
 use limits::ring::fill_offsets;
 use limits::sizes::{values_a_block, values_a_row};

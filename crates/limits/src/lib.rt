@@ -1,5 +1,7 @@
 // Each call of vectors and patterns at its limits: a function runs one case, by its number, and says what was seen.
 // Nothing is printed here, so that nothing is assumed; the program `cases` goes through the numbers.
+#![tactic(auto)]
+
 pub mod filled;
 pub mod pattern_cases;
 pub mod ring;

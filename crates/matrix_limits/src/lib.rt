@@ -1,5 +1,7 @@
 // Each call of matrix and fixing at its limits: a function runs one case, by its number, and says what was seen.
 // The matrix has two rows that name each other, then as many rows and columns as may be, and one more.
+#![tactic(auto)]
+
 ghost use Rattle.std.specs.Prelude.{◌≤◌, ◌+◌};
 
 use limits::Seen;

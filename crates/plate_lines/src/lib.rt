@@ -1,5 +1,7 @@
 // The lines of the fixed list whose calls are lent slices of any length: each is run, with N as a number, and compared word for word.
 // A line's words are the count of each slice, then the call's numbers and slices in its order, its number and row, and what it leaves.
+#![tactic(auto)]
+
 pub mod element_lines;
 pub mod matrix_lines;
 

@@ -1,8 +1,13 @@
 // Replays the fixed list of the original's answers: a line is a call with its inputs, the answer and the outputs, as words.
 // It prints how many cases of each call agree, names the first line that does not, and needs no Rust.
+#![tactic(auto)]
+
 mod report;
 
 ghost use Rattle.std.specs.Prelude.{◌≡◌, length};
+
+use std::io;
+use streams::read_full;
 
 // Room for the list. Only its length is promised, so that no proof counts the zeros.
 fn room() -> [u8; 1572864]
@@ -11,15 +16,16 @@ fn room() -> [u8; 1572864]
     [0; 1572864]
 }
 
-fn warn_if_full(length: usize) {
+fn warn_if_full(rt: &impl Print, length: usize) -> io::Result<()> {
     if length == 1572864 {
-        io::write_all(1, b"input: 1572864 bytes or more, its end was not read\n");
+        println!(rt; "input: 1572864 bytes or more, its end was not read")?;
     }
+    Ok(())
 }
 
-fn main() {
+fn main(rt: HostRuntime) -> io::Result<()> {
     let mut text = room();
-    let length = io::read_full(0, &mut text);
-    warn_if_full(length);
-    report::report(tallies::replay(&text[..length]));
+    let length = read_full(&mut rt.reader(), &mut text)?;
+    warn_if_full(&rt, length)?;
+    report::report(&rt, tallies::replay(&text[..length]))
 }

@@ -1,46 +1,42 @@
 // The lines that say the counts.
 // A line that would say none is left out.
+use std::io;
 use tallies::calls::{CALLS, name_of};
 use tallies::tally::Tally;
 use texts::Text;
 
-fn print_head(bytes: &[u8], count: usize) {
+fn print_head(rt: &impl Print, bytes: &[u8], count: usize) -> io::Result<()> {
     if count <= bytes.len() {
-        io::write_all(1, &bytes[0..count]);
+        rt.write_all(&bytes[0..count])?;
     }
+    Ok(())
 }
 
-fn print_text(text: Text) {
+fn print_text(rt: &impl Print, text: Text) -> io::Result<()> {
     let bytes = text.bytes;
-    print_head(&bytes, text.count);
+    print_head(rt, &bytes, text.count)
 }
 
-fn print_counts(call: usize, cases: u64, wrong: u64) {
-    print_text(name_of(call));
-    io::write_all(1, b": ");
-    io::print_decimal(1, cases);
-    io::write_all(1, b" cases, ");
-    io::print_decimal(1, wrong);
-    io::write_all(1, b" wrong\n");
+fn print_counts(rt: &impl Print, call: usize, cases: u64, wrong: u64) -> io::Result<()> {
+    print_text(rt, name_of(call))?;
+    println!(rt; ": {cases} cases, {wrong} wrong")
 }
 
-fn print_line(what: &[u8], number: u64) {
+fn print_line(rt: &impl Print, what: &[u8], number: u64) -> io::Result<()> {
     if number > 0 {
-        io::write_all(1, what);
-        io::print_decimal(1, number);
-        io::write_all(1, b"\n");
+        rt.write_all(what)?;
+        println!(rt; "{number}")?;
     }
+    Ok(())
 }
 
-pub fn report(t: Tally) {
+pub fn report(rt: &impl Print, t: Tally) -> io::Result<()> {
     let cases = t.cases;
     let wrong = t.wrong;
-    let mut call = 0;
-    while call < CALLS {
-        print_counts(call, cases[call], wrong[call]);
-        call += 1;
+    for call in 0..CALLS {
+        print_counts(rt, call, cases[call], wrong[call])?;
     }
-    print_line(b"first wrong case: line ", t.first_wrong);
-    print_line(b"malformed lines: ", t.malformed);
-    print_line(b"first malformed: line ", t.first_malformed);
+    print_line(rt, b"first wrong case: line ", t.first_wrong)?;
+    print_line(rt, b"malformed lines: ", t.malformed)?;
+    print_line(rt, b"first malformed: line ", t.first_malformed)
 }

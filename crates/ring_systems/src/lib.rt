@@ -1,5 +1,7 @@
 // Systems of rows in a ring, of any number of rows and at each N: each row names the row after it and then the row before it, around the end.
 // A is symmetric and each of its rows is heavier on the diagonal than beside it, so that both solvers converge.
+#![tactic(auto)]
+
 use limits::sizes::{values_a_block, values_a_row};
 
 // The numbers on the diagonal of a row's block go round by four.

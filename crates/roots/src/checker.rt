@@ -9,7 +9,7 @@ const LEADING: u64 = 0x0010_0000_0000_0000;
 const HALF: u64 = 0x1_0000_0000;
 
 // The number high * 2^64 + low.
-#[derive(Drop)]
+#[derive(Clone, Copy)]
 struct Wide {
     high: u64,
     low: u64,

@@ -4,6 +4,7 @@ ghost use Rattle.std.specs.Prelude.{◌≡◌};
 ghost use Rattle.roots.specs.Input.{line_of};
 
 use crate::tally::{Tally, report};
+use std::io;
 use words::first_of;
 use words::unchecked::hex_at;
 
@@ -43,38 +44,36 @@ fn line_of(line: &[u8]) -> Line
 }
 
 // What the lines so far came to.
-#[derive(Drop)]
+#[derive(Clone, Copy)]
 struct Published {
     tally: Tally,
     malformed: u64,
 }
 
-fn print_malformed(number: u64) {
-    io::write_all(1, b"line ");
-    io::print_decimal(1, number);
-    io::write_all(1, b": malformed\n");
+fn print_malformed(rt: &impl Print, number: u64) -> io::Result<()> {
+    println!(rt; "line {number}: malformed")
 }
 
 // Adds one line, which has the given number.
-fn add_line(p: Published, line: &[u8], number: u64) -> Published {
+fn add_line(rt: &impl Print, p: Published, line: &[u8], number: u64) -> io::Result<Published> {
     let tally = p.tally;
     match line_of(line) {
-        Line::Root(x, want) => Published {
+        Line::Root(x, want) => Ok(Published {
             tally: tally.compared(x, want),
             malformed: p.malformed,
-        },
-        Line::Comment => p,
+        }),
+        Line::Comment => Ok(p),
         Line::Malformed => {
-            print_malformed(number);
-            Published {
+            print_malformed(rt, number)?;
+            Ok(Published {
                 tally,
                 malformed: std::num::wrapping_add_u64(p.malformed, 1),
-            }
+            })
         }
     }
 }
 
-fn read_lines(text: &[u8]) -> Published {
+fn read_lines(rt: &impl Print, text: &[u8]) -> io::Result<Published> {
     let mut p = Published {
         tally: Tally::new(),
         malformed: 0,
@@ -83,29 +82,28 @@ fn read_lines(text: &[u8]) -> Published {
     let mut at: usize = 0;
     while at < text.len() {
         let end = at + first_of(&text[at..], b'\n');
-        p = add_line(p, &text[at..end], number);
+        p = add_line(rt, p, &text[at..end], number)?;
         number = std::num::wrapping_add_u64(number, 1);
         at = end + 1;
     }
-    p
+    Ok(p)
 }
 
-fn report_malformed(malformed: u64) {
+fn report_malformed(rt: &impl Print, malformed: u64) -> io::Result<()> {
     if malformed > 0 {
-        io::write_all(1, b"malformed lines: ");
-        io::print_decimal(1, malformed);
-        io::write_all(1, b"\n");
+        println!(rt; "malformed lines: {malformed}")?;
     }
+    Ok(())
 }
 
 // Compares each root of the text, and says what came out.
-pub fn run_published(text: &[u8]) {
-    let p = read_lines(text);
-    report_malformed(p.malformed);
+pub fn run_published(rt: &impl Print, text: &[u8]) -> io::Result<()> {
+    let p = read_lines(rt, text)?;
+    report_malformed(rt, p.malformed)?;
     let tally = p.tally;
     if tally.is_empty() {
-        io::write_all(1, b"published: no root in the input\n");
+        println!(rt; "published: no root in the input")
     } else {
-        report(b"published", tally);
+        report(rt, b"published", tally)
     }
 }

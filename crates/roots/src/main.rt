@@ -1,30 +1,46 @@
 // Runs the square root: the published roots that standard input has, two roots of document 01, and a spread of its own.
 // A published root is compared bit for bit. One of the spread is judged in whole numbers, with no use of the library's way.
+#![tactic(auto)]
+
 mod checker;
 mod groups;
 mod input;
 mod tally;
 
-// How much of the input is read: the length of `io::large_buffer`.
+ghost use Rattle.std.specs.Prelude.{◌≡◌, length};
+
+use std::io;
+use streams::read_full;
+
+// How much of the input is read: the length of `room`.
 const MOST: usize = 65536;
 
-fn warn_if_full(length: usize) {
-    if length == MOST {
-        io::write_all(1, b"input: only the first 65536 bytes were read\n");
-    }
+// Room for the input. Only its length is promised, so that no proof counts the zeros.
+fn room() -> [u8; 65536]
+    ensures { 65536 ≡ length result }
+{
+    [0; 65536]
 }
 
-fn main() {
-    let mut text = io::large_buffer();
-    let length = io::read_full(0, &mut text);
-    warn_if_full(length);
-    input::run_published(&text[..length]);
-    tally::report(b"case 12", groups::case_12());
-    tally::report(b"powers of two and their neighbours", groups::powers());
+fn warn_if_full(rt: &impl Print, length: usize) -> io::Result<()> {
+    if length == MOST {
+        println!(rt; "input: only the first 65536 bytes were read")?;
+    }
+    Ok(())
+}
+
+fn main(rt: HostRuntime) -> io::Result<()> {
+    let mut text = room();
+    let length = read_full(&mut rt.reader(), &mut text)?;
+    warn_if_full(&rt, length)?;
+    input::run_published(&rt, &text[..length])?;
+    tally::report(&rt, b"case 12", groups::case_12())?;
+    tally::report(&rt, b"powers of two and their neighbours", groups::powers())?;
     tally::report(
+        &rt,
         b"a spread of digits at every exponent",
         groups::every_exponent(),
-    );
-    tally::report(b"squares and their neighbours", groups::squares());
-    tally::report(b"special values", groups::special());
+    )?;
+    tally::report(&rt, b"squares and their neighbours", groups::squares())?;
+    tally::report(&rt, b"special values", groups::special())
 }

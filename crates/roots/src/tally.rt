@@ -1,6 +1,7 @@
 // Counts of roots and of wrong ones, and the lines that say them. A NaN counts as one pattern.
 // Bits go to a value and back through the crate words, which knows NaN by one pattern.
 use crate::checker::is_nearest;
+use std::io;
 use words::{bits_of, value_of};
 
 // The bits of a negative zero, of plus infinity, and those that stand here for every NaN.
@@ -12,7 +13,7 @@ const NAN: u64 = 0x7ff8_0000_0000_0000;
 
 // How many roots were taken and how many were wrong, and of the first wrong one its number, what
 // came, and what was expected, if that is known.
-#[derive(Drop)]
+#[derive(Clone, Copy)]
 pub struct Tally {
     roots: u64,
     wrong: u64,
@@ -114,33 +115,25 @@ impl Tally {
     }
 }
 
-fn print_expected(t: Tally) {
+fn print_expected(rt: &impl Print, t: Tally) -> io::Result<()> {
     if t.known {
-        io::write_all(1, b", expected ");
-        io::print_hex(1, t.want, 16);
-        io::write_all(1, b"\n");
+        println!(rt; ", expected {:016x}", t.want)
     } else {
-        io::write_all(1, b", not nearest\n");
+        println!(rt; ", not nearest")
     }
 }
 
-fn print_first(t: Tally) {
-    io::write_all(1, b"  first wrong: of ");
-    io::print_hex(1, t.x, 16);
-    io::write_all(1, b" got ");
-    io::print_hex(1, t.got, 16);
-    print_expected(t);
+fn print_first(rt: &impl Print, t: Tally) -> io::Result<()> {
+    print!(rt; "  first wrong: of {:016x} got {:016x}", t.x, t.got)?;
+    print_expected(rt, t)
 }
 
 // The line of a group, and its first wrong root.
-pub fn report(group: &[u8], t: Tally) {
-    io::write_all(1, group);
-    io::write_all(1, b": ");
-    io::print_decimal(1, t.roots);
-    io::write_all(1, b" roots, ");
-    io::print_decimal(1, t.wrong);
-    io::write_all(1, b" wrong\n");
+pub fn report(rt: &impl Print, group: &[u8], t: Tally) -> io::Result<()> {
+    rt.write_all(group)?;
+    println!(rt; ": {} roots, {} wrong", t.roots, t.wrong)?;
     if t.wrong > 0 {
-        print_first(t);
+        print_first(rt, t)?;
     }
+    Ok(())
 }

@@ -1,5 +1,7 @@
 // Small factors, each by its number: all words that a decomposition leaves, whether or not it stops, and what solves with the finished one come to.
 // A block is a number on its diagonal; two of the entries have one more value, so that the order of a product shows at N = 2 and 3.
+#![tactic(auto)]
+
 ghost use Rattle.std.specs.Prelude.{◌≤◌};
 
 use limits::sizes::{values_a_block, values_a_row};

@@ -1,6 +1,6 @@
 // What each case lends: the right side, the tolerance, the limit, the history's length, and what else is not as in the others.
 // Cases: 0 settled within the limit; 1 settled at the last step that is allowed, with no word of the history to spare; 2 a step less allowed; 3 and 4 limits of 0 and 1;
-// 5, 6, 7 a tolerance of 0, infinite, NaN; 8 to 12 a right side of 0, of -0, subnormal, just below epsilon, at epsilon; 13 A of zeros, so that typeof.p.Ap is 0;
+// 5, 6, 7 a tolerance of 0, infinite, NaN; 8 to 12 a right side of 0, of -0, subnormal, just below epsilon, at epsilon; 13 A of zeros, so that p·Ap is 0;
 // 14 an infinity in ap or pr; 15 a NaN in the right side; 16 a right side whose square overflows; 17 one whose square is below epsilon unless rows are summed apart, at N = 2.
 ghost use Rattle.std.specs.Prelude.{◌≤◌};
 

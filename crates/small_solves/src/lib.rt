@@ -1,5 +1,7 @@
 // Small systems and where both solvers, conjugate_gradient and preconditioned_conjugate_gradient (0, 1), end on them: a function runs one case, by its number.
 // Lent words rise by one from 1 on, so that those which a call leaves alone show. Nothing is printed here, so that nothing is assumed.
+#![tactic(auto)]
+
 pub mod factored;
 pub mod inputs;
 
@@ -11,7 +13,7 @@ use solver_calls::{plain, preconditioned};
 use solvers::Solve;
 
 // The answer, and the words that are left: r, u or x, ap or pr, p, and the history with the words past its count.
-#[derive(Drop)]
+#[derive(Clone, Copy)]
 pub struct Left {
     pub answer: Solve,
     pub r: [f64; 12],

@@ -1,5 +1,7 @@
 // Both solvers with N as a number, for the cases that are run; a number that is no N counts as 3.
 // The slices are those of conjugate_gradient and preconditioned_conjugate_gradient, in their order.
+#![tactic(auto)]
+
 use solvers::Solve;
 
 pub fn plain(

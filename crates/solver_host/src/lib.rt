@@ -1,5 +1,7 @@
 // The entry points of the solvers, on numbers and lent byte slices, with N as a number: 8 bytes to a value, 4 to an index, the low byte first.
 // All work is in the crates below; here an answer becomes numbers. A library of its own, to be linked beside those of `host` and `factor_host`.
+#![tactic(auto)]
+
 pub mod timed;
 
 ghost use Rattle.std.specs.Float.{binary64};

@@ -1,5 +1,7 @@
 // Both solvers, conjugate_gradient and preconditioned_conjugate_gradient (0, 1), at their limits: a function runs one case, by its number.
 // Nothing is printed here, so that nothing is assumed; the program `solver_cases` goes through the numbers.
+#![tactic(auto)]
+
 ghost use Rattle.std.specs.Prelude.{◌≤◌, ◌+◌};
 
 use factor_shapes::{

@@ -1,5 +1,7 @@
 // The lines of the fixed list whose calls are the solvers: each is run and compared word for word.
 // A line's words are the count of each slice, the first four slices, the tolerance and the limit, the other slices, the answer, and what the call leaves.
+#![tactic(auto)]
+
 ghost use Rattle.std.specs.Prelude.{◌≤◌};
 
 use lines::line::{

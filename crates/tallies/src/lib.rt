@@ -1,5 +1,7 @@
 // The fixed list of the original's answers, line by line: each is read, run and counted.
 // Nothing is read or printed here, so that nothing is assumed; the program `replay` does both.
+#![tactic(auto)]
+
 pub mod calls;
 pub mod case;
 pub mod tally;

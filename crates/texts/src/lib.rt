@@ -1,6 +1,6 @@
 // Short texts by value, so that a library can say what a program prints.
 // Nothing is printed here, so that nothing is assumed.
-use check::same;
+#![tactic(auto)]
 
 #[derive(Drop)]
 pub struct Text {
@@ -32,7 +32,7 @@ fn is_head(bytes: &[u8], count: usize, name: &[u8]) -> bool {
     if count > bytes.len() {
         return false;
     }
-    same(&bytes[0..count], name)
+    &bytes[0..count] == name
 }
 
 pub fn is_text(text: Text, name: &[u8]) -> bool {

@@ -1,0 +1,54 @@
+// The exports of `host::unchecked`, as the crate's root says: each is the call of the same name, with the same promise.
+ghost use Rattle.std.specs.Prelude.{◌≡◌, ◌*◌, length};
+ghost use Rattle.std.specs.Float.{binary64};
+ghost use Rattle.patterns.specs.Pattern.{rows_of};
+ghost use Rattle.matrix.specs.Fits.{MatrixFits};
+ghost use Rattle.matrix.specs.Product.{mult_vec};
+ghost use Rattle.answers.specs.Promise.{after};
+ghost use Rattle.elements.specs.declared.unchecked.Rule.TheVariants.{Place};
+ghost use Rattle.elements.specs.Assembly.{Lists, merged};
+ghost use Rattle.elements.specs.Checks.{pair_checks};
+ghost use Rattle.elements.specs.Fits.{AssemblyFits};
+
+// y scaled by beta, plus alpha times the matrix times x.
+#[unsafe(no_mangle)]
+pub extern "C" fn pierbramble_unchecked_mult_vec(
+    dim: u32,
+    offsets: &[u32],
+    columns: &[u32],
+    values: &[f64],
+    diagonal: &[f64],
+    y: &mut [f64],
+    beta: f64,
+    alpha: f64,
+    x: &[f64],
+)
+    requires { (MatrixFits dim offsets.now columns.now (length values.now) (length diagonal.now)) × (length x.now ≡ dim * rows_of offsets.now) × (length y.old ≡ dim * rows_of offsets.now) }
+    ensures { y.new ≡ mult_vec binary64 dim offsets.now columns.now values.now diagonal.now beta alpha x.now y.old }
+{
+    host::unchecked::pierbramble_unchecked_mult_vec(
+        dim, offsets, columns, values, diagonal, y, beta, alpha, x,
+    )
+}
+
+// The answer is dropped: the benchmark's nodes and pairs are all in the pattern.
+#[unsafe(no_mangle)]
+pub extern "C" fn pierbramble_unchecked_merge(
+    dim: u32,
+    nodes: &[u32],
+    element: &[f64],
+    offsets: &[u32],
+    columns: &[u32],
+    diagonal: &mut [f64],
+    values: &mut [f64],
+)
+    requires { AssemblyFits dim Place nodes.now nodes.now (length element.now) offsets.now columns.now (length diagonal.old) (length values.old) }
+    ensures { ◌≡◌ {A = Lists} (diagonal.new, values.new)
+        (after (pair_checks Place nodes.now nodes.now offsets.now columns.now)
+        (merged binary64 dim nodes.now element.now offsets.now columns.now (diagonal.old, values.old))
+        (diagonal.old, values.old)) }
+{
+    host::unchecked::pierbramble_unchecked_merge(
+        dim, nodes, element, offsets, columns, diagonal, values,
+    )
+}

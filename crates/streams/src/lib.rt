@@ -1,0 +1,22 @@
+// Reading all of an input into room that is lent.
+#![tactic(auto)]
+
+ghost use Rattle.std.specs.Prelude.{◌≤◌, length, IfOk};
+
+use std::io;
+use std::io::Read;
+
+// Reads until the room is full or the input ends, and answers how many bytes it put at its start.
+pub fn read_full<R: Read>(reader: &mut R, room: &mut [u8]) -> io::Result<usize>
+    ensures { IfOk result (λ n. n ≤ length room.new) }
+{
+    let mut done = 0;
+    while done < room.len() {
+        let n = reader.read(&mut room[done..])?;
+        if n == 0 {
+            return Ok(done);
+        }
+        done += n;
+    }
+    Ok(done)
+}
