@@ -208,6 +208,8 @@ class Turn:
                 q = fn.up(q)
         rest = self.rest(p, rest)
         names = CLAUSES.get(tuple((fn.callee[p] or "::").split("::")[:1] + (fn.callee[p] or "::").split("::")[-1:]), ((), ()))[1]
+        if rest in (["auto"], ["new"]) and fn.params.get(fn.callee[p]):
+            return ("value", ".".join([var, fn.new[p]] + rest), ("slices", fn.params[fn.callee[p]]))
         if rest == ["ensures"] and len(names) > 1:
             return ("value", ".".join([var, fn.new[p]] + rest), ("clauses", names))
         return ("value", ".".join([var, fn.new[p]] + rest), ("step", p) if not rest else None)
@@ -306,6 +308,15 @@ class Turn:
             base = got[3]
             res = self.path(base, got[2], fields)
             return res and (*res, base)
+        if kind[0] == "slices":
+            k, j = 0, 0
+            while j < len(fields) and fields[j] == "1":
+                k, j = k + 1, j + 1
+            if j < len(fields) and fields[j] == "0":
+                j += 1
+            if not j or k >= len(kind[1]):
+                return ("value", ".".join([v] + fields), None, None)
+            return ("value", ".".join([v, kind[1][k]] + fields[j:]), None, None)
         if kind[0] == "clauses":
             return ("value", ".".join([v] + (by_name(kind[1], fields) or fields) if fields else [v]), None, None)
         if kind[0] == "args":
@@ -626,6 +637,12 @@ def convert(path, fn, module, crate, mutslices, say):
             continue
         plain_items.append((com, t, name))
         ans.append((com, t, name))
+    def args_of(s):
+        for name in set(re.findall(r"let (" + ID + r") = c\.args in", s)):
+            s = re.sub(r"(?<![^\s(])" + re.escape(name) + r"\.(" + ID + ")", lambda m: name + "." + turn.arg(m[1]), s)
+        return s
+
+    ans = [(c, args_of(s), n) for c, s, n in ans]
     fix = lambda s: re.sub(r"\(not-(?:true|false) _ (c\.if-not-" + ID + r"\.(?:true|false))\)", r"\1", re.sub(r"(?<!\()not-(?:true|false) _ (c\.if-not-" + ID + r"\.(?:true|false))", r"\1", s))
     ans = [(c, fix(s), n) for c, s, n in ans]
     # local names in snake case
@@ -657,6 +674,18 @@ def convert(path, fn, module, crate, mutslices, say):
             inv_items.append((com, t))
     inv_items += [(c, t) for c, t, _ in inv]
     ans = [(c, t, n) for c, t, n in ans if n not in need_inv]
+
+    # A part of a very large room: its end is by a lemma, since its length would be computed a word at a time.
+    rooms = {m[3]: (m[1], m[2]) for _, s, _ in ans for m in re.finditer(r"part_of_room (\d+) _ (0|\(of_bits binary64 0\)) (c\.\S+?)\)", s)}
+
+    def end(s):
+        m = re.search(r"(?m)^(slice_bounds-\S+-end c =) (c\.\S+)$", s)
+        if m and m[2] in rooms and int(rooms[m[2]][0]) > 200000:
+            uses.append("use Rattle.pattern_bytes.proofs.RoomLaws.{end_of_room}")
+            return s.replace(m[0], f"{m[1]} end_of_room {rooms[m[2]][0]} _ {rooms[m[2]][1]} {m[2]}")
+        return s
+
+    ans = [(c, end(s), n) for c, s, n in ans]
 
     def used(u, texts):
         m = re.match(r"use (\S+?)\.\{(.*)\}$", u)

@@ -20,6 +20,10 @@ whole_values bytes right = let even : bytes % 8 ≡ 0 = eqb-true (bytes % 8) 0 (
 pub part_of_room : {A : Type 0} (room count : ℕ) (x : A) → count ≤ room → length (take count (replicate room x)) ≡ count
 part_of_room room count x few = length-take-le count (replicate room x) (rw (length-replicate room x) few)
 
+-- a part that is asked for ends within the room
+pub end_of_room : {A : Type 0} (room count : ℕ) (x : A) → count ≤ room → count ≤ length (replicate room x)
+end_of_room room count x few = rw (length-replicate room x) few
+
 -- and these are the words of the bytes
 pub room_filled : {A : Type 0} (k room bytes : ℕ) (x : A) → Held k room bytes → bytes ≡ k * length (take (bytes / k) (replicate room x))
 room_filled k room bytes x held = held.whole ∙ ap (λ (n : ℕ). k * n) (sym (part_of_room room (bytes / k) x held.few))

@@ -2,7 +2,7 @@
 -- Assumes nothing.
 use mathlib.Core.Path.{sym}
 use lib.Ieee.{binary64, of_bits}
-use Rattle.pattern_bytes.proofs.RoomLaws.{part_of_room}
+use Rattle.pattern_bytes.proofs.RoomLaws.{part_of_room, end_of_room}
 use Rattle.matrix_bytes.proofs.WayLaws.{fills, filled}
 use Rattle.matrix_bytes.proofs.mult_vec_in_full_room.Goals as goal
 
@@ -19,7 +19,7 @@ pub slice_bounds-mult_vec_in-end-2 : goal.slice_bounds-mult_vec_in-end-2
 slice_bounds-mult_vec_in-end-2 c = sym (part_of_room 65535 _ 0 c.requires.0.of_columns.few)
 
 pub slice_bounds-vals-end : goal.slice_bounds-vals-end
-slice_bounds-vals-end c = c.requires.0.of_values.few
+slice_bounds-vals-end c = end_of_room 589815 _ (of_bits binary64 0) c.requires.0.of_values.few
 
 pub slice_bounds-mult_vec_in-end-3 : goal.slice_bounds-mult_vec_in-end-3
 slice_bounds-mult_vec_in-end-3 c = sym (part_of_room 589815 _ (of_bits binary64 0) c.requires.0.of_values.few)

@@ -8,7 +8,7 @@ pub put_pattern-requires : goal.put_pattern-requires
 put_pattern-requires c =
     let fits = c.requires.starts_len in
     let kept = c.write_words-answer.auto in
-    (omega (arith, fits.2, kept.0), omega (arith, fits.3, kept.1.0), omega (arith, fits.4, kept.1.1.0))
+    (omega (arith, fits.2, kept.offsets), omega (arith, fits.3, kept.columns), omega (arith, fits.4, kept.splits))
 
 pub returns : goal.returns
 returns c =

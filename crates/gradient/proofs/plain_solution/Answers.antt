@@ -1,0 +1,9 @@
+-- `plain_solution` meets its promise.
+-- Assumes nothing.
+use Rattle.gradient.proofs.EndLaws.{solution_made}
+use Rattle.gradient.proofs.plain_solution.Goals as goal
+
+pub returns : goal.returns
+returns c =
+    let a = c.args in
+    solution_made a.tolerance a.history.now a.count c.requires.0 _ c.last_number-last.ensures _ c.of_plain.ensures

@@ -1,0 +1,14 @@
+-- `unchecked::turns` meets its promise: the steps that are left lead where all of them lead.
+-- Assumes nothing.
+use Prim.Native.Nat.{◌-◌}
+use Rattle.solvers.specs.Method.{matrix_of, state_of}
+use Rattle.gradient.proofs.TurnLaws.{Turning}
+use Rattle.gradient.proofs.unchecked.turns.Given as goal
+
+abbrev pub invariant-loop-k : goal.invariant-loop-k
+invariant-loop-k l =
+    Turning l.dim (matrix_of l.offsets l.columns l.values l.diagonal) l.tolerance l.inverse l.limit (state_of l.initial.r l.initial.x l.initial.q l.initial.p l.first) l.initial.history l.r l.x l.q l.p l.history l.rho l.k
+
+abbrev pub decreases-loop-k : goal.decreases-loop-k
+decreases-loop-k l =
+    l.limit - l.k
