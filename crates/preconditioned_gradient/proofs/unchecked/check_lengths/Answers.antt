@@ -1,0 +1,64 @@
+-- `unchecked::check_lengths` meets its promise: each return answers the first check that holds.
+-- Assumes nothing.
+use mathlib.Core.Path.{◌≡◌, sym, ◌∙◌}
+use mathlib.Core.Bool.{false}
+use native.Mathlib.Omega.{arith}
+use Rattle.patterns.specs.Checks.{too_large}
+use Rattle.patterns.proofs.SizeLaws.{rows_least, rows_most, columns_most}
+use Rattle.advancing.proofs.CheckLaws.{limit_most}
+use Rattle.preconditioned_gradient.proofs.unchecked.check_lengths.Goals as goal
+
+pub returns-then-is_too_large : goal.returns-then-is_too_large
+returns-then-is_too_large c = rw (sym c.is_too_large.ensures ∙ c.if-is_too_large.true)
+
+pub returns-then-is_too_large-2 : goal.returns-then-is_too_large-2
+returns-then-is_too_large-2 c =
+    -- past the first two tests neither pattern is too large
+    let small : too_large c.args.starts c.args.entries ≡ false = sym c.is_too_large.ensures ∙ c.if-is_too_large.false in
+    rw (small, sym c.is_too_large-2.ensures ∙ c.if-is_too_large-2.true)
+
+pub returns-then-out_of_range : goal.returns-then-out_of_range
+returns-then-out_of_range c =
+    -- past the first two tests neither pattern is too large
+    let small : too_large c.args.starts c.args.entries ≡ false = sym c.is_too_large.ensures ∙ c.if-is_too_large.false in
+    let small-factor : too_large c.args.offsets c.args.columns ≡ false = sym c.is_too_large-2.ensures ∙ c.if-is_too_large-2.false in
+    rw (small, small-factor, sym c.out_of_range.ensures ∙ c.if-out_of_range.true)
+
+pub overflow_sub-rows : goal.overflow_sub-rows
+overflow_sub-rows c =
+    -- past the first two tests neither pattern is too large
+    let small : too_large c.args.starts c.args.entries ≡ false = sym c.is_too_large.ensures ∙ c.if-is_too_large.false in
+    let a = c.args in omega (arith, rows_least a.starts a.entries small)
+
+pub overflow_sub-factor_rows : goal.overflow_sub-factor_rows
+overflow_sub-factor_rows c =
+    let small-factor : too_large c.args.offsets c.args.columns ≡ false = sym c.is_too_large-2.ensures ∙ c.if-is_too_large-2.false in
+    let a = c.args in omega (arith, rows_least a.offsets a.columns small-factor)
+
+pub is_misshapen-requires : goal.is_misshapen-requires
+is_misshapen-requires c =
+    -- past the first two tests neither pattern is too large
+    let small : too_large c.args.starts c.args.entries ≡ false = sym c.is_too_large.ensures ∙ c.if-is_too_large.false in
+    let small-factor : too_large c.args.offsets c.args.columns ≡ false = sym c.is_too_large-2.ensures ∙ c.if-is_too_large-2.false in
+    let a = c.args in (
+      c.requires,
+      limit_most a.limit (sym c.out_of_range.ensures ∙ c.if-out_of_range.false),
+      rows_most a.starts a.entries small,
+      columns_most a.starts a.entries small,
+      rows_most a.offsets a.columns small-factor,
+      columns_most a.offsets a.columns small-factor,
+    )
+
+pub returns-then-is_misshapen : goal.returns-then-is_misshapen
+returns-then-is_misshapen c =
+    -- past the first two tests neither pattern is too large
+    let small : too_large c.args.starts c.args.entries ≡ false = sym c.is_too_large.ensures ∙ c.if-is_too_large.false in
+    let small-factor : too_large c.args.offsets c.args.columns ≡ false = sym c.is_too_large-2.ensures ∙ c.if-is_too_large-2.false in
+    rw (small, small-factor, sym c.out_of_range.ensures ∙ c.if-out_of_range.false, sym c.is_misshapen.ensures ∙ c.if-is_misshapen.true)
+
+pub returns : goal.returns
+returns c =
+    -- past the first two tests neither pattern is too large
+    let small : too_large c.args.starts c.args.entries ≡ false = sym c.is_too_large.ensures ∙ c.if-is_too_large.false in
+    let small-factor : too_large c.args.offsets c.args.columns ≡ false = sym c.is_too_large-2.ensures ∙ c.if-is_too_large-2.false in
+    rw (small, small-factor, sym c.out_of_range.ensures ∙ c.if-out_of_range.false, sym c.is_misshapen.ensures ∙ c.if-is_misshapen.false)
