@@ -2,6 +2,7 @@
 -- Assumes nothing.
 use Rattle.std.proofs.Common.{sym, ◌∙◌, eq-eqb, ne_eqb}
 use Rattle.roots.specs.Input.{line_of}
+use borrow.Author.Tests.{not-true, not-false}
 use Rattle.roots.proofs.input.line_of.Goals as goal
 
 pub returns-then-line-eq0 : goal.returns-then-line-eq0
@@ -29,7 +30,7 @@ returns-then-not-x c =
       ne_eqb _ _ c.if-line-eq35.false,
       eq-eqb _ _ c.if-line-ne33.false,
       eq-eqb _ _ c.if-line-ne32.false,
-      sym c.hex_at-x.ensures.good_value ∙ c.if-not-x.true,
+      sym c.hex_at-x.ensures.good_value ∙ not-true _ c.if-not-x.true,
     )
 
 pub returns-then-not-root : goal.returns-then-not-root
@@ -40,15 +41,15 @@ returns-then-not-root c =
       ne_eqb _ _ c.if-line-eq35.false,
       eq-eqb _ _ c.if-line-ne33.false,
       eq-eqb _ _ c.if-line-ne32.false,
-      sym c.hex_at-x.ensures.good_value ∙ c.if-not-x.false,
-      sym c.hex_at-root.ensures.good_value ∙ c.if-not-root.true,
+      sym c.hex_at-x.ensures.good_value ∙ not-false _ c.if-not-x.false,
+      sym c.hex_at-root.ensures.good_value ∙ not-true _ c.if-not-root.true,
     )
 
 pub returns : goal.returns
 unfolding line_of
 returns c =
-    let x-good = c.if-not-x.false in
-    let root-good = c.if-not-root.false in
+    let x-good = not-false _ c.if-not-x.false in
+    let root-good = not-false _ c.if-not-root.false in
     rw (
       ne_eqb _ _ c.if-line-eq0.false,
       ne_eqb _ _ c.if-line-eq35.false,

@@ -1,0 +1,7 @@
+-- `matrix_calls::pierbramble_mult_vec` meets its promise: the end of the call, without a row.
+-- Assumes nothing.
+use Rattle.outcomes.proofs.FinishedLaws.{finished_call}
+use Rattle.host.proofs.matrix_calls.pierbramble_mult_vec.Goals as goal
+
+pub returns : goal.returns
+returns c = (finished_call _ _ _ _ _ _ c.mult_vec.ensures c.rowless.ensures.0, c.rowless.ensures.1)

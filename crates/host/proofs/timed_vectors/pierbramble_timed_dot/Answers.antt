@@ -1,0 +1,10 @@
+-- `timed_vectors::pierbramble_timed_dot` meets its promise: the sum is that of the call, or +0.
+-- Assumes nothing.
+use lib.Ieee.{binary64}
+use Rattle.outcomes.proofs.SumLaws.{finished_sum}
+use Rattle.host.proofs.timed_vectors.pierbramble_timed_dot.Goals as goal
+
+pub returns : goal.returns
+returns c =
+    let r = c.summed_of.ensures in
+    finished_sum binary64 _ _ _ _ c.dot.ensures r.0 r.1 r.2

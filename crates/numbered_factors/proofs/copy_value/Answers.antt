@@ -1,0 +1,28 @@
+-- `copy_value` meets its promise: at 1, 2, 3 it is the call of `copying`, and at any other N it is refused.
+-- Assumes nothing.
+use mathlib.Core.Bool.{◌||◌}
+use lib.ListN.{length}
+use Rattle.patterns.specs.Checks.{too_large}
+use Rattle.numbered.proofs.NumberedLaws.{twice, at_no_dim}
+use Rattle.numbered_factors.proofs.copy_value.Goals as goal
+
+pub returns-in-1 : goal.returns-in-1
+returns-in-1 c =
+    let a = c.args in
+    rw c.in-1.is (twice _ _ _ _ _ (too_large (length a.starts.now) (length a.entries.now) || too_large (length a.offsets.now) (length a.columns.now)) c.copy_value_1.ensures)
+
+pub returns-in-2 : goal.returns-in-2
+returns-in-2 c =
+    let a = c.args in
+    rw c.in-2.is (twice _ _ _ _ _ (too_large (length a.starts.now) (length a.entries.now) || too_large (length a.offsets.now) (length a.columns.now)) c.copy_value_2.ensures)
+
+pub returns-in-3 : goal.returns-in-3
+returns-in-3 c =
+    let a = c.args in
+    rw c.in-3.is (twice _ _ _ _ _ (too_large (length a.starts.now) (length a.entries.now) || too_large (length a.offsets.now) (length a.columns.now)) c.copy_value_3.ensures)
+
+pub returns-in_default : goal.returns-in_default
+returns-in_default c =
+    let a = c.args in
+    let other = c.in_default.in_default-own.rest in
+    at_no_dim a.dim other.0.0.1 other.0.1 other.1 (too_large (length a.starts.now) (length a.entries.now) || too_large (length a.offsets.now) (length a.columns.now)) _ _ c.copy_refusal.ensures _ _
