@@ -17,4 +17,4 @@ module _ {t : Run} {words r x q p h : List Float} {count : ℕ} (left : Leaves t
       ap (λ (k : ℕ). take k h) left.of_count ∙ ap (take (length t.history)) left.of_history ∙ take_over t.history words
 
   pub lent_is : lent_of r x q p h ≡ left_by t words
-  lent_is = rw (left.of_r, left.of_x, left.of_q, left.of_p_lem, left.of_history)
+  lent_is = rw (left.of_r, left.of_x, left.of_q, left.of_p, left.of_history)

@@ -28,4 +28,4 @@ advanced n a s q r x d square eq ed ex er es = record { of_r = cc; of_x = cc; of
 -- only the lengths count
 pub ready_same : {n : ℕ} {a : Matrix} {r x q p : ℕ} (r' x' q' p' : ℕ) → Ready n a r x q p → r' ≡ r → x' ≡ x → q' ≡ q → p' ≡ p → Ready n a r' x' q' p'
 ready_same r' x' q' p' d er ex eq ep =
-    record { fits = d.fits; of_r = er ∙ d.of_r; of_x = ex ∙ d.of_x; of_q = eq ∙ d.of_q; of_p_lem = ep ∙ d.of_p_lem }
+    record { fits = d.fits; of_r = er ∙ d.of_r; of_x = ex ∙ d.of_x; of_q = eq ∙ d.of_q; of_p = ep ∙ d.of_p }

@@ -13,7 +13,7 @@ pub record Ready (n : ℕ) (a : Matrix) (r x q p : ℕ) : Type 0 where
   pub of_r : r ≡ n * rows_of a.offsets
   pub of_x : x ≡ n * rows_of a.offsets
   pub of_q : q ≡ n * rows_of a.offsets
-  pub of_p_lem : p ≡ n * rows_of a.offsets
+  pub of_p : p ≡ n * rows_of a.offsets
 
 -- the vectors are those of a state, and the number is its squared norm
 pub record Advanced (f : Format) (n : ℕ) (a : Matrix) (s : State) (r x q : List Float) (square : Float) : Type 0 where
@@ -27,6 +27,6 @@ pub record Leaves (t : Run) (words r x q p history : List Float) (count : ℕ) :
   pub of_r : r ≡ t.end.r
   pub of_x : x ≡ t.end.x
   pub of_q : q ≡ t.end.q
-  pub of_p_lem : p ≡ t.end.p
+  pub of_p : p ≡ t.end.p
   pub of_history : history ≡ over t.history words
   pub of_count : count ≡ length t.history

@@ -11,7 +11,7 @@ ghost use Rattle.advancing.specs.Steps.{Ready, Advanced};
 use matrix::unchecked::mult_vec;
 use vectors::unchecked::{add_scaled_vector, dot};
 
-// q becomes A p, x moves by alpha p and r by -alpha A p, with alpha = rho / (typeof.p.A p). The result is the new r·r.
+// q becomes A p, x moves by alpha p and r by -alpha A p, with alpha = rho / (p·A p). The result is the new r·r.
 pub fn advance(
     r: &mut [f64],
     x: &mut [f64],

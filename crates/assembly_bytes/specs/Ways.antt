@@ -1,5 +1,5 @@
 -- Which call is asked for, the lists that it changes as bytes, and what the functions between the checks and the call ask of the bytes.
--- Definitions only. Public promises cite `listsIn` and `bytesOfLists` alone.
+-- Definitions only. Public promises cite `lists_in` and `bytes_of_lists` alone.
 use Rattle.std.specs.Prelude.{◌≡◌, List, ℕ, ◌-◌, ◌*◌, ◌/◌, ◌≤◌, length, Float}
 use Rattle.std.specs.Float.{Format}
 use Rattle.answers.specs.declared.Answer.{Answer}

@@ -101,25 +101,25 @@ module _ (dim st en ad av o cs s d v : ℕ) where
       (a_first (too_large (st / 4) (en / 4)) (misshapen dim st en av ad) (misshapen_factor dim o cs s d v) (wrong_values dim (st / 4 - 1) (en / 4) (av / 8) (ad / 8))
       (wrong_factor dim (o / 4 - 1) (cs / 4) (s / 4) (d / 8) (v / 8)) (not (eqb (o / 4 - 1) (st / 4 - 1))) other)
 
-  module _ (of_a_lem : first_of (byte_checks st en (misshapen dim st en av ad) ++ matrix_lengths dim (st / 4) (en / 4) (av / 8) (ad / 8)) ≡ 0) where
+  module _ (of_a : first_of (byte_checks st en (misshapen dim st en av ad) ++ matrix_lengths dim (st / 4) (en / 4) (av / 8) (ad / 8)) ≡ 0) where
     pub factor_refuses : (first_of (byte_checks o cs (misshapen_factor dim o cs s d v || false) ++ factor_lengths dim (o / 4) (cs / 4) (s / 4) (d / 8) (v / 8)) ≡ 0 → ⊥)
         → first_of (byte_checks o cs (misshapen_factor dim o cs s d v || false) ++ factor_lengths dim (o / 4) (cs / 4) (s / 4) (d / 8) (v / 8))
         ≡ first_of (copy_byte_checks st en o cs (misshapen_copy dim st en ad av o cs s d v) ++ copy_lengths dim (st / 4) (en / 4) (ad / 8) (av / 8) (o / 4) (cs / 4) (s / 4) (d / 8) (v / 8))
     factor_refuses =
         then_factor (too_large (st / 4) (en / 4)) (too_large (o / 4) (cs / 4)) (misshapen dim st en av ad) (misshapen_factor dim o cs s d v) (wrong_values dim (st / 4 - 1) (en / 4) (av / 8) (ad / 8))
-        (wrong_factor dim (o / 4 - 1) (cs / 4) (s / 4) (d / 8) (v / 8)) (not (eqb (o / 4 - 1) (st / 4 - 1))) of_a_lem
+        (wrong_factor dim (o / 4 - 1) (cs / 4) (s / 4) (d / 8) (v / 8)) (not (eqb (o / 4 - 1) (st / 4 - 1))) of_a
 
     module _ (of_factor : first_of (byte_checks o cs (misshapen_factor dim o cs s d v || false) ++ factor_lengths dim (o / 4) (cs / 4) (s / 4) (d / 8) (v / 8)) ≡ 0) where
       rows_decide : first_of (copy_byte_checks st en o cs (misshapen_copy dim st en ad av o cs s d v) ++ copy_lengths dim (st / 4) (en / 4) (ad / 8) (av / 8) (o / 4) (cs / 4) (s / 4) (d / 8) (v / 8))
           ≡ first_of ((2 when not (eqb (o / 4 - 1) (st / 4 - 1))) ∷ [])
       rows_decide =
           then_rows (too_large (st / 4) (en / 4)) (too_large (o / 4) (cs / 4)) (misshapen dim st en av ad) (misshapen_factor dim o cs s d v) (wrong_values dim (st / 4 - 1) (en / 4) (av / 8) (ad / 8))
-          (wrong_factor dim (o / 4 - 1) (cs / 4) (s / 4) (d / 8) (v / 8)) (not (eqb (o / 4 - 1) (st / 4 - 1))) of_a_lem of_factor
+          (wrong_factor dim (o / 4 - 1) (cs / 4) (s / 4) (d / 8) (v / 8)) (not (eqb (o / 4 - 1) (st / 4 - 1))) of_a of_factor
 
       pub rows_differ : (o / 4 ≡ st / 4 → ⊥)
           → first_of (copy_byte_checks st en o cs (misshapen_copy dim st en ad av o cs s d v) ++ copy_lengths dim (st / 4) (en / 4) (ad / 8) (av / 8) (o / 4) (cs / 4) (s / 4) (d / 8) (v / 8)) ≡ 2
       rows_differ other =
-          let some : 1 ≤ st / 4 = some_offsets dim st en 0 ad av false of_a_lem in
+          let some : 1 ≤ st / 4 = some_offsets dim st en 0 ad av false of_a in
           let any : 1 ≤ o / 4 = has_offsets dim o cs s d v false of_factor in
           rows_decide ∙ rw (ne_eqb (o / 4 - 1) (st / 4 - 1) (λ e. other (omega (arith, e, some, any))))
 

@@ -140,8 +140,8 @@ pub same_copied : (f : Format) {n : ℕ} {starts entries o cs : List ℕ} (value
     → values ≡ copied_rows f n starts entries values o cs
 same_copied f {n = n} {o = o} {cs = cs} values fit p q =
     let pat = fit.patterns in
-    rw (p, q) (own_all f n o cs values pat.valid_factor (omega (arith, pat.same, pat.most)) pat.few_columns (fit.of_a_lem ∙ ap (λ (l : List ℕ). n * n * length l) q))
+    rw (p, q) (own_all f n o cs values pat.valid_factor (omega (arith, pat.same, pat.most)) pat.few_columns (fit.of_a ∙ ap (λ (l : List ℕ). n * n * length l) q))
 
 -- and there are as many
 pub same_long : {n : ℕ} {starts entries o cs : List ℕ} {a-values values : ℕ} → CopyFits n starts entries o cs a-values values → entries ≡ cs → a-values ≡ values
-same_long {n = n} fit q = fit.of_a_lem ∙ ap (λ (l : List ℕ). n * n * length l) q ∙ sym fit.of_values
+same_long {n = n} fit q = fit.of_a ∙ ap (λ (l : List ℕ). n * n * length l) q ∙ sym fit.of_values

@@ -25,5 +25,5 @@ pub record CopyFits (n : ℕ) (starts entries offsets columns : List ℕ) (a-val
   pub dim : Dim n
   pub patterns : Patterns starts entries offsets columns
   pub placed : all_have_places starts entries offsets columns ≡ true
-  pub of_a_lem : a-values ≡ n * n * length entries
+  pub of_a : a-values ≡ n * n * length entries
   pub of_values : values ≡ n * n * length columns

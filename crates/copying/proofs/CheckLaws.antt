@@ -34,11 +34,11 @@ module _ (b : Bool) (later : Bool) (none : (not b && later) ≡ true) where
   later_pass = and_right (not b) later none
 
 -- A is valid: what the factor's rows are refused by, 3 or 11, the rules are refused by
-pub by_factor_lem : (of_a_lem valid right placed : Bool) (number : ℕ) → of_a_lem ≡ true → number ≡ first_of ((3 when not valid) ∷ (11 when not right) ∷ []) → (number ≡ 0 → ⊥)
-    → number ≡ first_of ((3 when (not of_a_lem || not valid)) ∷ (11 when not right) ∷ (8 when not placed) ∷ [])
-by_factor_lem of_a_lem false right placed number is_valid_lem is other = rw is_valid_lem is
-by_factor_lem of_a_lem true false placed number is_valid_lem is other = rw is_valid_lem is
-by_factor_lem of_a_lem true true placed number is_valid_lem is other = absurd (other is)
+pub by_factor_lem : (of_a valid right placed : Bool) (number : ℕ) → of_a ≡ true → number ≡ first_of ((3 when not valid) ∷ (11 when not right) ∷ []) → (number ≡ 0 → ⊥)
+    → number ≡ first_of ((3 when (not of_a || not valid)) ∷ (11 when not right) ∷ (8 when not placed) ∷ [])
+by_factor_lem of_a false right placed number is_valid_lem is other = rw is_valid_lem is
+by_factor_lem of_a true false placed number is_valid_lem is other = rw is_valid_lem is
+by_factor_lem of_a true true placed number is_valid_lem is other = absurd (other is)
 
 -- a block to each entry and to each row
 module _ (n rows entries values diagonal : ℕ) (right : wrong_values n rows entries values diagonal ≡ false) where
@@ -53,7 +53,7 @@ pub record Shaped (n starts entries a-diagonal a-values offsets columns splits d
   pub sized : too_large starts entries ≡ false
   pub sized_factor : too_large offsets columns ≡ false
   pub same : offsets - 1 ≡ starts - 1
-  pub of_a_lem : wrong_values n (starts - 1) entries a-values a-diagonal ≡ false
+  pub of_a : wrong_values n (starts - 1) entries a-values a-diagonal ≡ false
   pub of_factor : wrong_values n (offsets - 1) columns values diagonal ≡ false
   pub of_splits : splits ≡ offsets - 1
 
@@ -63,16 +63,16 @@ module _ (n starts entries a-diagonal a-values offsets columns splits diagonal v
       → Shaped n starts entries a-diagonal a-values offsets columns splits diagonal values
   shaped small right =
       let differ = not (eqb (offsets - 1) (starts - 1)) in
-      let of_a_lem = wrong_values n (starts - 1) entries a-values a-diagonal in
+      let of_a = wrong_values n (starts - 1) entries a-values a-diagonal in
       let of_factor = wrong_values n (offsets - 1) columns values diagonal in
       let split = not (eqb splits (offsets - 1)) in
-      let rest = or_right differ (of_a_lem || (of_factor || split)) right in
-      let last = or_right of_a_lem (of_factor || split) rest in
+      let rest = or_right differ (of_a || (of_factor || split)) right in
+      let last = or_right of_a (of_factor || split) rest in
       record {
         sized = or_left (too_large starts entries) (too_large offsets columns) small;
         sized_factor = or_right (too_large starts entries) (too_large offsets columns) small;
-        same = eqb-true _ _ (not-false _ (or_left differ (of_a_lem || (of_factor || split)) right));
-        of_a_lem = or_left of_a_lem (of_factor || split) rest;
+        same = eqb-true _ _ (not-false _ (or_left differ (of_a || (of_factor || split)) right));
+        of_a = or_left of_a (of_factor || split) rest;
         of_factor = or_left of_factor split last;
         of_splits = eqb-true _ _ (not-false _ (or_right of_factor split last));
       }
@@ -137,9 +137,9 @@ module _ (n : ℕ) (starts entries : List ℕ) (a-diagonal a-values : ℕ) (offs
           dim = dim;
           patterns = patterns_of starts entries offsets columns shape.sized shape.sized_factor shape.same valid.0 valid.1;
           placed = all_placed starts entries offsets columns splits (later_pass wrong rules later);
-          of_a_lem = values_are n (rows_of starts) (length entries) a-values a-diagonal shape.of_a_lem;
+          of_a = values_are n (rows_of starts) (length entries) a-values a-diagonal shape.of_a;
           of_values = values_are n (rows_of offsets) (length columns) values diagonal shape.of_factor;
         },
-        diagonal_is n (rows_of starts) (length entries) a-values a-diagonal shape.of_a_lem ∙ ap (λ (r : ℕ). n * n * r) (sym shape.same)
+        diagonal_is n (rows_of starts) (length entries) a-values a-diagonal shape.of_a ∙ ap (λ (r : ℕ). n * n * r) (sym shape.same)
             ∙ sym (diagonal_is n (rows_of offsets) (length columns) values diagonal shape.of_factor),
       )

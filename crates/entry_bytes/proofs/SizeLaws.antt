@@ -67,7 +67,7 @@ module _ (n rows cols element offsets columns values : ℕ) (dim : Dim n) (unbro
 
   pub element_fits : ElementFits rows cols element
   element_fits = record {
-    of_rows_lem = held 4 8 rows (whole_indexes rows (or_left (broken 4 rows) (broken 4 cols || broken 8 element) of_element)) few;
+    of_rows = held 4 8 rows (whole_indexes rows (or_left (broken 4 rows) (broken 4 cols || broken 8 element) of_element)) few;
     of_cols = held 4 8 cols (whole_indexes cols (or_left (broken 4 cols) (broken 8 element) (or_right (broken 4 rows) (broken 4 cols || broken 8 element) of_element))) (rw alike few);
     of_element = held 8 576 element (whole_values element (or_right (broken 4 cols) (broken 8 element) (or_right (broken 4 rows) (broken 4 cols || broken 8 element) of_element))) values_few;
   }

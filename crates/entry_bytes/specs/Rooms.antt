@@ -27,7 +27,7 @@ BlkcsrEnds f dim rows cols element offsets columns values answer new_values =
 
 -- an element of up to 8 nodes
 pub record ElementFits (rows cols element : ℕ) : Type 0 where
-  pub of_rows_lem : Held 4 8 rows
+  pub of_rows : Held 4 8 rows
   pub of_cols : Held 4 8 cols
   pub of_element : Held 8 576 element
 

@@ -28,7 +28,7 @@ module _ (n : ℕ) (a : Matrix) (g : Factor) (tolerance : Float) (limit : ℕ) (
         of_r = refl;
         of_x = zero_is;
         of_q = refl;
-        of_p_lem = refl;
+        of_p = refl;
         of_history = ap (λ (l : List Float). set l 0 norm) (sym (over_none words)) ∙ set_over [] words norm (omega (arith, some));
         of_count = refl;
       })
@@ -40,4 +40,4 @@ module _ (n : ℕ) (a : Matrix) (g : Factor) (tolerance : Float) (limit : ℕ) (
   unfolding preconditioned_gradient dot_all
   starts_steps x' z w r' u' q' p' h' rho count beside zero_is prepared Copy-is above left =
       let rho_is : rho ≡ dot_to binary64 n r z (rows_of a.offsets) = rw beside.same at prepared.of_rho in
-      rw (← is, ← epsilon_is, above, ← root, ← zero_is, ← prepared.of_z_lem, ← rho_is, ← Copy-is) left
+      rw (← is, ← epsilon_is, above, ← root, ← zero_is, ← prepared.of_z, ← rho_is, ← Copy-is) left

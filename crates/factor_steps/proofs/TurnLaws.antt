@@ -25,7 +25,7 @@ use Rattle.factor_steps.specs.Steps.{Beside, Preconditions}
 pub preconditions : (n : ℕ) (g : Factor) (r q w z : List Float) (rho : Float) → w ≡ copied r q → z ≡ solve binary64 n g.pattern g.values w
     → rho ≡ dot_to binary64 n r z (rows_of g.pattern.offsets) → Preconditions binary64 n g r q z rho
 unfolding preconditioned
-preconditions n g r q w z rho Copy-is solve-is dot-is = record { of_z_lem = solve-is ∙ ap (solve binary64 n g.pattern g.values) Copy-is; of_rho = dot-is }
+preconditions n g r q w z rho copy_is solve-is dot-is = record { of_z = solve-is ∙ ap (solve binary64 n g.pattern g.values) copy_is; of_rho = dot-is }
 
 -- all fits, the slices are as long as they came, and the steps that are left lead where all of them lead
 pub record Turning (n : ℕ) (a : Matrix) (g : Factor) (norm tolerance inverse : Float) (limit : ℕ) (z : State) (words r x q p h : List Float) (rho : Float) (k : ℕ) : Type 0 where
@@ -44,8 +44,8 @@ pub record Turning (n : ℕ) (a : Matrix) (g : Factor) (norm tolerance inverse :
   pub going : Going (by_factor binary64 n a g tolerance inverse) limit z (norm ∷ []) words (state_of r x q p rho) h k
 
 -- the factor's rows are the matrix's
-pub of_rows_lem : {n length : ℕ} {a : Matrix} {g : Factor} → Beside n a g → length ≡ n * rows_of a.offsets → length ≡ n * rows_of g.pattern.offsets
-of_rows_lem {n} beside is = is ∙ ap (λ (rows : ℕ). n * rows) (sym beside.same)
+pub of_rows : {n length : ℕ} {a : Matrix} {g : Factor} → Beside n a g → length ≡ n * rows_of a.offsets → length ≡ n * rows_of g.pattern.offsets
+of_rows {n} beside is = is ∙ ap (λ (rows : ℕ). n * rows) (sym beside.same)
 
 module _ {n : ℕ} {a : Matrix} {g : Factor} {norm tolerance inverse : Float} {limit : ℕ} where
   pub turning_start : {r x q p : List Float} {rho : Float} (words : List Float) → Ready n a (length r) (length x) (length q) (length p) → Beside n a g → limit + 2 ≤ length words → limit ≤ 4096
@@ -54,8 +54,8 @@ module _ {n : ℕ} {a : Matrix} {g : Factor} {norm tolerance inverse : Float} {l
       record {
         ready = ready;
         beside = beside;
-        of_q = of_rows_lem beside ready.of_q;
-        of_r = of_rows_lem beside ready.of_r;
+        of_q = of_rows beside ready.of_q;
+        of_r = of_rows beside ready.of_r;
         len_r = refl;
         len_x = refl;
         len_q = refl;
@@ -88,7 +88,7 @@ module _ {n : ℕ} {a : Matrix} {g : Factor} {norm tolerance inverse : Float} {l
             of_r = refl;
             of_x = refl;
             of_q = refl;
-            of_p_lem = refl;
+            of_p = refl;
             of_history = written;
             of_count = omega (arith, length-append t.going.done (last ∷ []), all_made);
           })
@@ -120,7 +120,7 @@ module _ {n : ℕ} {a : Matrix} {g : Factor} {norm tolerance inverse : Float} {l
             of_r = step.of_r;
             of_x = step.of_x;
             of_q = step.of_q;
-            of_p_lem = refl;
+            of_p = refl;
             of_history = rw place at (going_written t.going b made number refl is_norm);
             of_count = omega (arith, length-append t.going.done (number ∷ []), t.going.count);
           })
@@ -129,7 +129,7 @@ module _ {n : ℕ} {a : Matrix} {g : Factor} {norm tolerance inverse : Float} {l
       module _ (w p' : List Float) (rho' : Float) (prepared : Preconditions binary64 n g r' q' w rho') (turned : p' ≡ scale_add binary64 (div binary64 rho' rho) w p) where
         next : state_of r' x' w p' rho' ≡ redirected binary64 n a g made
         unfolding redirected moved dot_all
-        next = rw (turned, prepared.of_rho, t.beside.same, prepared.of_z_lem, step.of_r, step.of_x, step.of_q)
+        next = rw (turned, prepared.of_rho, t.beside.same, prepared.of_z, step.of_r, step.of_x, step.of_q)
 
         pub turning_on : lt share tolerance ≡ false → length r' ≡ length r → length x' ≡ length x → length w ≡ length q → length p' ≡ length p
             → Turning n a g norm tolerance inverse limit z words r' x' w p' (set h (k + 1) number) rho' (k + 1)
@@ -158,7 +158,7 @@ from_first n a norm t words r x q p h count left =
       of_r = left.of_r;
       of_x = left.of_x;
       of_q = left.of_q;
-      of_p_lem = left.of_p_lem;
+      of_p = left.of_p;
       of_history = left.of_history ∙ over_first norm _ words norm;
       of_count = left.of_count;
     }

@@ -15,5 +15,5 @@ pub record Beside (n : ℕ) (a : Matrix) (g : Factor) : Type 0 where
 
 -- z is P r in the place of q, and rho its dot product with r
 pub record Preconditions (f : Format) (n : ℕ) (g : Factor) (r q z : List Float) (rho : Float) : Type 0 where
-  pub of_z_lem : z ≡ preconditioned f n g r q
+  pub of_z : z ≡ preconditioned f n g r q
   pub of_rho : rho ≡ dot_to f n r z (rows_of g.pattern.offsets)

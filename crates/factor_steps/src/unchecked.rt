@@ -15,7 +15,7 @@ use solvers::Tolerance;
 use solving::unchecked::solve_preconditioning_vec;
 use vectors::unchecked::{copy, dot, scale_and_add_vec, set_zero};
 
-// q becomes P r. The result is typeof.r.P r. This is the one place that solves with the factor, so that the solve is compiled into it.
+// q becomes P r. The result is r·P r. This is the one place that solves with the factor, so that the solve is compiled into it.
 fn precondition(
     q: &mut [f64],
     r: &[f64],

@@ -92,5 +92,5 @@ module _ (n : ℕ) (dim : Dim n) (limit : ℕ) (a : Matrix) (r u ap p history : 
         of_r = r_is rows n r u ap p right_vectors;
         of_x = x_is rows n r u ap p right_vectors;
         of_q = q_is rows n r u ap p right_vectors;
-        of_p_lem = p_is rows n r u ap p right_vectors;
+        of_p = p_is rows n r u ap p right_vectors;
       }

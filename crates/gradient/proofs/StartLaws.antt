@@ -22,7 +22,7 @@ module _ (n : ℕ) (a : Matrix) (tolerance : Float) (limit : ℕ) (r u ap p word
       → Leaves (conjugate_gradient binary64 n a tolerance limit r u ap p) words r x ap p words 0
   unfolding conjugate_gradient dot_all
   starts_empty x zero_is below =
-      rw (← is, ← epsilon_is, below) (record { of_r = refl; of_x = zero_is; of_q = refl; of_p_lem = refl; of_history = sym (over_none words); of_count = refl })
+      rw (← is, ← epsilon_is, below) (record { of_r = refl; of_x = zero_is; of_q = refl; of_p = refl; of_history = sym (over_none words); of_count = refl })
 
   pub starts_steps : (x w : List Float) (r' u' ap' p' h' : List Float) (count : ℕ) → x ≡ zeroed binary64 u → w ≡ copied r p → lt square (of_bits binary64 4372995238176751616) ≡ false
       → Leaves (run (plain binary64 n a tolerance (div binary64 (one binary64) square)) limit (state_of r x ap w square)) words r' u' ap' p' h' count

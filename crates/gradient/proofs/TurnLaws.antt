@@ -53,7 +53,7 @@ module _ {n : ℕ} {a : Matrix} {tolerance inverse : Float} {limit : ℕ} where
           of_r = refl;
           of_x = refl;
           of_q = refl;
-          of_p_lem = refl;
+          of_p = refl;
           of_history = g.going.written;
           of_count = sym g.going.count;
         })
@@ -83,7 +83,7 @@ module _ {n : ℕ} {a : Matrix} {tolerance inverse : Float} {limit : ℕ} where
             of_r = step.of_r;
             of_x = step.of_x;
             of_q = step.of_q;
-            of_p_lem = refl;
+            of_p = refl;
             of_history = rw place at (going_written g.going b t number refl is_ratio);
             of_count = ap (λ (j : ℕ). j + 1) (sym g.going.count) ∙ sym (length-append g.going.done (number ∷ []));
           })

@@ -35,9 +35,9 @@ pub fn solve_preconditioning_vec(
     diagonal: &[f64],
     values: &[f64],
 ) -> Answer
-    ensures { Ends (dim_checks dim (length offsets.entry.now) (length columns.now)
-        ++ solve_checks dim offsets.entry.now columns.now splits.now (length diagonal.entry.now) (length values.now) (length vec.old)) result
-        (solve binary64 dim (record { offsets = offsets.entry.now; columns = columns.now; splits = splits.now }) (record { diagonal = diagonal.entry.now; values = values.now }) vec.old)
+    ensures { Ends (dim_checks dim (length offsets.now) (length columns.now)
+        ++ solve_checks dim offsets.now columns.now splits.now (length diagonal.now) (length values.now) (length vec.old)) result
+        (solve binary64 dim (record { offsets = offsets.now; columns = columns.now; splits = splits.now }) (record { diagonal = diagonal.now; values = values.now }) vec.old)
         vec.old vec.new }
 {
     match dim {

@@ -25,8 +25,8 @@ fn solve_checked(
     values: &[f64],
 ) -> Answer
     requires { Dim dim }
-    ensures { Ends (solve_checks dim offsets.entry.now columns.now splits.now (length diagonal.entry.now) (length values.now) (length vec.old)) result
-        (solve binary64 dim (record { offsets = offsets.entry.now; columns = columns.now; splits = splits.now }) (record { diagonal = diagonal.entry.now; values = values.now }) vec.old)
+    ensures { Ends (solve_checks dim offsets.now columns.now splits.now (length diagonal.now) (length values.now) (length vec.old)) result
+        (solve binary64 dim (record { offsets = offsets.now; columns = columns.now; splits = splits.now }) (record { diagonal = diagonal.now; values = values.now }) vec.old)
         vec.old vec.new }
 {
     let answer = check_solve(
@@ -54,8 +54,8 @@ pub fn solve_preconditioning_vec_1(
     diagonal: &[f64],
     values: &[f64],
 ) -> Answer
-    ensures { Ends (solve_checks 1 offsets.entry.now columns.now splits.now (length diagonal.entry.now) (length values.now) (length vec.old)) result
-        (solve binary64 1 (record { offsets = offsets.entry.now; columns = columns.now; splits = splits.now }) (record { diagonal = diagonal.entry.now; values = values.now }) vec.old)
+    ensures { Ends (solve_checks 1 offsets.now columns.now splits.now (length diagonal.now) (length values.now) (length vec.old)) result
+        (solve binary64 1 (record { offsets = offsets.now; columns = columns.now; splits = splits.now }) (record { diagonal = diagonal.now; values = values.now }) vec.old)
         vec.old vec.new }
 {
     solve_checked(vec, 1, offsets, columns, splits, diagonal, values)
@@ -69,8 +69,8 @@ pub fn solve_preconditioning_vec_2(
     diagonal: &[f64],
     values: &[f64],
 ) -> Answer
-    ensures { Ends (solve_checks 2 offsets.entry.now columns.now splits.now (length diagonal.entry.now) (length values.now) (length vec.old)) result
-        (solve binary64 2 (record { offsets = offsets.entry.now; columns = columns.now; splits = splits.now }) (record { diagonal = diagonal.entry.now; values = values.now }) vec.old)
+    ensures { Ends (solve_checks 2 offsets.now columns.now splits.now (length diagonal.now) (length values.now) (length vec.old)) result
+        (solve binary64 2 (record { offsets = offsets.now; columns = columns.now; splits = splits.now }) (record { diagonal = diagonal.now; values = values.now }) vec.old)
         vec.old vec.new }
 {
     solve_checked(vec, 2, offsets, columns, splits, diagonal, values)
@@ -84,8 +84,8 @@ pub fn solve_preconditioning_vec_3(
     diagonal: &[f64],
     values: &[f64],
 ) -> Answer
-    ensures { Ends (solve_checks 3 offsets.entry.now columns.now splits.now (length diagonal.entry.now) (length values.now) (length vec.old)) result
-        (solve binary64 3 (record { offsets = offsets.entry.now; columns = columns.now; splits = splits.now }) (record { diagonal = diagonal.entry.now; values = values.now }) vec.old)
+    ensures { Ends (solve_checks 3 offsets.now columns.now splits.now (length diagonal.now) (length values.now) (length vec.old)) result
+        (solve binary64 3 (record { offsets = offsets.now; columns = columns.now; splits = splits.now }) (record { diagonal = diagonal.now; values = values.now }) vec.old)
         vec.old vec.new }
 {
     solve_checked(vec, 3, offsets, columns, splits, diagonal, values)

@@ -30,7 +30,7 @@ pub record Shaped (n limit starts entries a-values a-diagonal offsets columns sp
   pub sized : too_large starts entries ≡ false
   pub sized_factor : too_large offsets columns ≡ false
   pub few : limit ≤ 4096
-  pub of_a_lem : wrong_values n (starts - 1) entries a-values a-diagonal ≡ false
+  pub of_a : wrong_values n (starts - 1) entries a-values a-diagonal ≡ false
   pub same : offsets - 1 ≡ starts - 1
   pub of_factor : wrong_factor n (offsets - 1) columns splits diagonal values ≡ false
   pub of_vectors : wrong_vectors (starts - 1) n r x pr p ≡ false
@@ -41,19 +41,19 @@ module _ (n limit starts entries a-values a-diagonal offsets columns splits diag
       → wrong_preconditioned n limit (starts - 1) entries a-values a-diagonal (offsets - 1) columns splits diagonal values r x pr p history ≡ false
       → Shaped n limit starts entries a-values a-diagonal offsets columns splits diagonal values r x pr p history
   shaped small few right =
-      let of_a_lem = wrong_values n (starts - 1) entries a-values a-diagonal in
+      let of_a = wrong_values n (starts - 1) entries a-values a-diagonal in
       let differ = not (eqb (offsets - 1) (starts - 1)) in
       let of_factor = wrong_factor n (offsets - 1) columns splits diagonal values in
       let vectors = wrong_vectors (starts - 1) n r x pr p in
       let short = ltb history (limit + 2) in
-      let after-a = or_right of_a_lem (differ || (of_factor || (vectors || short))) right in
+      let after-a = or_right of_a (differ || (of_factor || (vectors || short))) right in
       let after-n = or_right differ (of_factor || (vectors || short)) after-a in
       let after-factor = or_right of_factor (vectors || short) after-n in
       record {
         sized = or_left (too_large starts entries) (too_large offsets columns) small;
         sized_factor = or_right (too_large starts entries) (too_large offsets columns) small;
         few = limit_most limit few;
-        of_a_lem = or_left of_a_lem (differ || (of_factor || (vectors || short))) right;
+        of_a = or_left of_a (differ || (of_factor || (vectors || short))) right;
         same = eqb-true _ _ (not-false _ (or_left differ (of_factor || (vectors || short)) after-a));
         of_factor = or_left of_factor (vectors || short) after-n;
         of_vectors = or_left vectors short after-factor;
@@ -128,13 +128,13 @@ module _ (n : ℕ) (dim : Dim n) (limit : ℕ) (a : Matrix) (g : Factor) (r x pr
               some = offsets_least n (length a.offsets) (length a.columns) dim shape.sized;
               pattern =
                   not-false _ (or_left (not (valid_pattern a.offsets a.columns)) (not (valid_pattern g.pattern.offsets g.pattern.columns)) neither);
-              of_values = eqb-true _ _ (not-false _ (or_left of_values of_diagonal shape.of_a_lem));
-              of_diagonal = eqb-true _ _ (not-false _ (or_right of_values of_diagonal shape.of_a_lem));
+              of_values = eqb-true _ _ (not-false _ (or_left of_values of_diagonal shape.of_a));
+              of_diagonal = eqb-true _ _ (not-false _ (or_right of_values of_diagonal shape.of_a));
             };
         of_r = r_is rows n r x pr p shape.of_vectors;
         of_x = x_is rows n r x pr p shape.of_vectors;
         of_q = q_is rows n r x pr p shape.of_vectors;
-        of_p_lem = p_is rows n r x pr p shape.of_vectors;
+        of_p = p_is rows n r x pr p shape.of_vectors;
       }
 
   pub beside : Beside n a g

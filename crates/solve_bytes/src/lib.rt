@@ -64,8 +64,8 @@ fn solve_in(
     values: &[u8],
 ) -> Answer
     requires { (FilledFactor dim (length offs.old) (length cols.old) (length cuts.old) (length diag.old) (length vals.old) (length offsets.now) (length columns.now) (length splits.now) (length diagonal.now) (length values.now)) × (length vec.old ≡ 8 * length x.old) }
-    ensures { Ends (solve_checks dim (indexes_in offsets.entry.now) (indexes_in columns.now) (indexes_in splits.now) (length diagonal.entry.now / 8) (length values.now / 8) (length vec.old / 8)) result
-        (bytes_of binary64 (solve binary64 dim (record { offsets = indexes_in offsets.entry.now; columns = indexes_in columns.now; splits = indexes_in splits.now }) (record { diagonal = values_in binary64 diagonal.entry.now; values = values_in binary64 values.now }) (values_in binary64 vec.old)))
+    ensures { Ends (solve_checks dim (indexes_in offsets.now) (indexes_in columns.now) (indexes_in splits.now) (length diagonal.now / 8) (length values.now / 8) (length vec.old / 8)) result
+        (bytes_of binary64 (solve binary64 dim (record { offsets = indexes_in offsets.now; columns = indexes_in columns.now; splits = indexes_in splits.now }) (record { diagonal = values_in binary64 diagonal.now; values = values_in binary64 values.now }) (values_in binary64 vec.old)))
         vec.old vec.new }
 {
     decode_factor(
@@ -88,8 +88,8 @@ fn solve_in_small_room(
     values: &[u8],
 ) -> Answer
     requires { (HeldFactor 16 64 dim (length offsets.now) (length columns.now) (length splits.now) (length diagonal.now) (length values.now)) × (Held 8 48 (length vec.old)) }
-    ensures { Ends (solve_checks dim (indexes_in offsets.entry.now) (indexes_in columns.now) (indexes_in splits.now) (length diagonal.entry.now / 8) (length values.now / 8) (length vec.old / 8)) result
-        (bytes_of binary64 (solve binary64 dim (record { offsets = indexes_in offsets.entry.now; columns = indexes_in columns.now; splits = indexes_in splits.now }) (record { diagonal = values_in binary64 diagonal.entry.now; values = values_in binary64 values.now }) (values_in binary64 vec.old)))
+    ensures { Ends (solve_checks dim (indexes_in offsets.now) (indexes_in columns.now) (indexes_in splits.now) (length diagonal.now / 8) (length values.now / 8) (length vec.old / 8)) result
+        (bytes_of binary64 (solve binary64 dim (record { offsets = indexes_in offsets.now; columns = indexes_in columns.now; splits = indexes_in splits.now }) (record { diagonal = values_in binary64 diagonal.now; values = values_in binary64 values.now }) (values_in binary64 vec.old)))
         vec.old vec.new }
 {
     let mut offs = [0u32; 17];
@@ -125,8 +125,8 @@ fn solve_in_full_room(
     values: &[u8],
 ) -> Answer
     requires { (HeldFactor 4096 65535 dim (length offsets.now) (length columns.now) (length splits.now) (length diagonal.now) (length values.now)) × (Held 8 12288 (length vec.old)) }
-    ensures { Ends (solve_checks dim (indexes_in offsets.entry.now) (indexes_in columns.now) (indexes_in splits.now) (length diagonal.entry.now / 8) (length values.now / 8) (length vec.old / 8)) result
-        (bytes_of binary64 (solve binary64 dim (record { offsets = indexes_in offsets.entry.now; columns = indexes_in columns.now; splits = indexes_in splits.now }) (record { diagonal = values_in binary64 diagonal.entry.now; values = values_in binary64 values.now }) (values_in binary64 vec.old)))
+    ensures { Ends (solve_checks dim (indexes_in offsets.now) (indexes_in columns.now) (indexes_in splits.now) (length diagonal.now / 8) (length values.now / 8) (length vec.old / 8)) result
+        (bytes_of binary64 (solve binary64 dim (record { offsets = indexes_in offsets.now; columns = indexes_in columns.now; splits = indexes_in splits.now }) (record { diagonal = values_in binary64 diagonal.now; values = values_in binary64 values.now }) (values_in binary64 vec.old)))
         vec.old vec.new }
 {
     let mut offs = [0u32; 4097];
@@ -162,9 +162,9 @@ pub fn solve_preconditioning_vec(
     diagonal: &[u8],
     values: &[u8],
 ) -> Answer
-    ensures { Ends (byte_checks (length offsets.entry.now) (length columns.now) (misshapen_solve dim (length offsets.entry.now) (length columns.now) (length splits.now) (length diagonal.entry.now) (length values.now) (length vec.old))
-        ++ solve_checks dim (indexes_in offsets.entry.now) (indexes_in columns.now) (indexes_in splits.now) (length diagonal.entry.now / 8) (length values.now / 8) (length vec.old / 8)) result
-        (bytes_of binary64 (solve binary64 dim (record { offsets = indexes_in offsets.entry.now; columns = indexes_in columns.now; splits = indexes_in splits.now }) (record { diagonal = values_in binary64 diagonal.entry.now; values = values_in binary64 values.now }) (values_in binary64 vec.old)))
+    ensures { Ends (byte_checks (length offsets.now) (length columns.now) (misshapen_solve dim (length offsets.now) (length columns.now) (length splits.now) (length diagonal.now) (length values.now) (length vec.old))
+        ++ solve_checks dim (indexes_in offsets.now) (indexes_in columns.now) (indexes_in splits.now) (length diagonal.now / 8) (length values.now / 8) (length vec.old / 8)) result
+        (bytes_of binary64 (solve binary64 dim (record { offsets = indexes_in offsets.now; columns = indexes_in columns.now; splits = indexes_in splits.now }) (record { diagonal = values_in binary64 diagonal.now; values = values_in binary64 values.now }) (values_in binary64 vec.old)))
         vec.old vec.new }
 {
     let answer = check_solve_bytes(

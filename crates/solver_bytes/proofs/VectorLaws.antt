@@ -43,7 +43,7 @@ held_vectors dim rows numbers r x q p history inside unbroken right fewer few lo
         whole = whole_values q (or_left (broken 8 q) (broken 8 p || broken 8 history) b2);
         few = few_in (q / 8) (or_left (wrong_length rows dim (q / 8)) (wrong_length rows dim (p / 8)) w2);
       };
-      of_p_lem = record {
+      of_p = record {
         whole = whole_values p (or_left (broken 8 p) (broken 8 history) b3);
         few = few_in (p / 8) (or_right (wrong_length rows dim (q / 8)) (wrong_length rows dim (p / 8)) w2);
       };

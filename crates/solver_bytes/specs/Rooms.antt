@@ -16,7 +16,7 @@ pub record HeldVectors (dim numbers r x q p history : ℕ) : Type 0 where
   pub of_r : Held 8 12288 r
   pub of_x : Held 8 12288 x
   pub of_q : Held 8 12288 q
-  pub of_p_lem : Held 8 12288 p
+  pub of_p : Held 8 12288 p
   pub few : numbers ≤ 4098
   pub enough : 8 * numbers ≤ history
 
@@ -25,7 +25,7 @@ pub record FilledVectors (residual solution product direction r x q p : ℕ) : T
   pub of_r : r ≡ 8 * residual
   pub of_x : x ≡ 8 * solution
   pub of_q : q ≡ 8 * product
-  pub of_p_lem : p ≡ 8 * direction
+  pub of_p : p ≡ 8 * direction
 
 -- words that were read from the bytes of the vectors
 pub record DecodedVectors (f : Format) (residual solution product direction : List Float) (r x q p : List ℕ) : Type 0 where

@@ -35,10 +35,10 @@ refused_number why zero_is =
 module _ (checks : List Check) (t : Run) (solution : Solution) (answer : Answer) (first : number_of answer ≡ first_of checks) (old : Lent) where
   pub ended : names 0 checks ≡ false → answer ≡ Done → (found : Solution) → found ≡ solution → (left : Lent) → left ≡ left_by t old.history
       → Solves checks t solution (Ended found) old left
-  ended unnamed is found right left Lent-is =
+  ended unnamed is found right left lent_same =
       let zero_is : 0 ≡ first_of checks = sym (ap number_of is) ∙ first in
       let passed = none_of_zero checks unnamed (sym zero_is) in
-      record { number = zero_is; values = rw (passed, right); lent = rw passed Lent-is }
+      record { number = zero_is; values = rw (passed, right); lent = rw passed lent_same }
 
   pub refused_solve : (why : Refusal) → answer ≡ Answers.TheVariants.Refused why → Solves checks t solution (Refused why) old old
   refused_solve why is =

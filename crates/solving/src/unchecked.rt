@@ -409,7 +409,7 @@ fn forward_1(
     values: &[f64],
 )
     requires { (FactorFits 1 offsets.now columns.now splits.now (length diagonal.now) (length values.now)) × (length vec.old ≡ 1 * rows_of offsets.now) }
-    ensures { vec.new ≡ forward_rows binary64 1 (record { offsets = offsets.entry.now; columns = columns.now; splits = splits.now }) (record { diagonal = diagonal.entry.now; values = values.now }) vec.old }
+    ensures { vec.new ≡ forward_rows binary64 1 (record { offsets = offsets.now; columns = columns.now; splits = splits.now }) (record { diagonal = diagonal.now; values = values.now }) vec.old }
 {
     let n = offsets.len() - 1;
     let mut at = n;
@@ -443,7 +443,7 @@ fn forward_2(
     values: &[f64],
 )
     requires { (FactorFits 2 offsets.now columns.now splits.now (length diagonal.now) (length values.now)) × (length vec.old ≡ 2 * rows_of offsets.now) }
-    ensures { vec.new ≡ forward_rows binary64 2 (record { offsets = offsets.entry.now; columns = columns.now; splits = splits.now }) (record { diagonal = diagonal.entry.now; values = values.now }) vec.old }
+    ensures { vec.new ≡ forward_rows binary64 2 (record { offsets = offsets.now; columns = columns.now; splits = splits.now }) (record { diagonal = diagonal.now; values = values.now }) vec.old }
 {
     let n = offsets.len() - 1;
     let mut at = n;
@@ -477,7 +477,7 @@ fn forward_3(
     values: &[f64],
 )
     requires { (FactorFits 3 offsets.now columns.now splits.now (length diagonal.now) (length values.now)) × (length vec.old ≡ 3 * rows_of offsets.now) }
-    ensures { vec.new ≡ forward_rows binary64 3 (record { offsets = offsets.entry.now; columns = columns.now; splits = splits.now }) (record { diagonal = diagonal.entry.now; values = values.now }) vec.old }
+    ensures { vec.new ≡ forward_rows binary64 3 (record { offsets = offsets.now; columns = columns.now; splits = splits.now }) (record { diagonal = diagonal.now; values = values.now }) vec.old }
 {
     let n = offsets.len() - 1;
     let mut at = n;
@@ -512,7 +512,7 @@ fn backward_1(
     values: &[f64],
 )
     requires { (FactorFits 1 offsets.now columns.now splits.now (length diagonal.now) (length values.now)) × (length vec.old ≡ 1 * rows_of offsets.now) }
-    ensures { vec.new ≡ backward_rows binary64 1 (record { offsets = offsets.entry.now; columns = columns.now; splits = splits.now }) (record { diagonal = diagonal.entry.now; values = values.now }) vec.old }
+    ensures { vec.new ≡ backward_rows binary64 1 (record { offsets = offsets.now; columns = columns.now; splits = splits.now }) (record { diagonal = diagonal.now; values = values.now }) vec.old }
 {
     let mut left = offsets.len() - 1;
     let mut known = [0.0];
@@ -535,7 +535,7 @@ fn backward_2(
     values: &[f64],
 )
     requires { (FactorFits 2 offsets.now columns.now splits.now (length diagonal.now) (length values.now)) × (length vec.old ≡ 2 * rows_of offsets.now) }
-    ensures { vec.new ≡ backward_rows binary64 2 (record { offsets = offsets.entry.now; columns = columns.now; splits = splits.now }) (record { diagonal = diagonal.entry.now; values = values.now }) vec.old }
+    ensures { vec.new ≡ backward_rows binary64 2 (record { offsets = offsets.now; columns = columns.now; splits = splits.now }) (record { diagonal = diagonal.now; values = values.now }) vec.old }
 {
     let mut left = offsets.len() - 1;
     let mut known = [0.0, 0.0];
@@ -558,7 +558,7 @@ fn backward_3(
     values: &[f64],
 )
     requires { (FactorFits 3 offsets.now columns.now splits.now (length diagonal.now) (length values.now)) × (length vec.old ≡ 3 * rows_of offsets.now) }
-    ensures { vec.new ≡ backward_rows binary64 3 (record { offsets = offsets.entry.now; columns = columns.now; splits = splits.now }) (record { diagonal = diagonal.entry.now; values = values.now }) vec.old }
+    ensures { vec.new ≡ backward_rows binary64 3 (record { offsets = offsets.now; columns = columns.now; splits = splits.now }) (record { diagonal = diagonal.now; values = values.now }) vec.old }
 {
     let mut left = offsets.len() - 1;
     let mut known = [0.0, 0.0, 0.0];
@@ -583,7 +583,7 @@ fn forward(
     values: &[f64],
 )
     requires { (FactorFits dim offsets.now columns.now splits.now (length diagonal.now) (length values.now)) × (length vec.old ≡ dim * rows_of offsets.now) }
-    ensures { vec.new ≡ forward_rows binary64 dim (record { offsets = offsets.entry.now; columns = columns.now; splits = splits.now }) (record { diagonal = diagonal.entry.now; values = values.now }) vec.old }
+    ensures { vec.new ≡ forward_rows binary64 dim (record { offsets = offsets.now; columns = columns.now; splits = splits.now }) (record { diagonal = diagonal.now; values = values.now }) vec.old }
 {
     match dim {
         1 => forward_1(vec, offsets, columns, splits, diagonal, values),
@@ -602,7 +602,7 @@ fn backward(
     values: &[f64],
 )
     requires { (FactorFits dim offsets.now columns.now splits.now (length diagonal.now) (length values.now)) × (length vec.old ≡ dim * rows_of offsets.now) }
-    ensures { vec.new ≡ backward_rows binary64 dim (record { offsets = offsets.entry.now; columns = columns.now; splits = splits.now }) (record { diagonal = diagonal.entry.now; values = values.now }) vec.old }
+    ensures { vec.new ≡ backward_rows binary64 dim (record { offsets = offsets.now; columns = columns.now; splits = splits.now }) (record { diagonal = diagonal.now; values = values.now }) vec.old }
 {
     match dim {
         1 => backward_1(vec, offsets, columns, splits, diagonal, values),
@@ -622,7 +622,7 @@ pub fn solve_preconditioning_vec(
     values: &[f64],
 )
     requires { (FactorFits dim offsets.now columns.now splits.now (length diagonal.now) (length values.now)) × (length vec.old ≡ dim * rows_of offsets.now) }
-    ensures { vec.new ≡ solve binary64 dim (record { offsets = offsets.entry.now; columns = columns.now; splits = splits.now }) (record { diagonal = diagonal.entry.now; values = values.now }) vec.old }
+    ensures { vec.new ≡ solve binary64 dim (record { offsets = offsets.now; columns = columns.now; splits = splits.now }) (record { diagonal = diagonal.now; values = values.now }) vec.old }
 {
     forward(vec, dim, offsets, columns, splits, diagonal, values);
     backward(vec, dim, offsets, columns, splits, diagonal, values);

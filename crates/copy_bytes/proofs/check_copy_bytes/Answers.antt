@@ -27,29 +27,29 @@ returns-then-number-ne0 c =
 pub returns-then-number-ne0-2 : goal.returns-then-number-ne0-2
 returns-then-number-ne0-2 c =
     -- past the second test A is not refused, and past the third the factor
-    let of_a_lem : (let a = c.args in
+    let of_a : (let a = c.args in
     first_of (byte_checks a.starts a.entries (misshapen a.dim a.starts a.entries a.a_values a.a_diagonal) ++ matrix_lengths a.dim (a.starts / 4) (a.entries / 4) (a.a_values / 8) (a.a_diagonal / 8)) ≡ 0) = sym c.check_matrix_bytes-of_a.ensures ∙ sym c.number.ensures ∙ c.if-number-ne0.false in
     let a = c.args in
     let first = c.check_factor_bytes-answer.ensures in
-    first ∙ factor_refuses a.dim a.starts a.entries a.a_diagonal a.a_values a.offsets a.columns a.splits a.diagonal a.values of_a_lem (λ z. c.if-number-ne0-2.true (c.number-2.ensures ∙ first ∙ z))
+    first ∙ factor_refuses a.dim a.starts a.entries a.a_diagonal a.a_values a.offsets a.columns a.splits a.diagonal a.values of_a (λ z. c.if-number-ne0-2.true (c.number-2.ensures ∙ first ∙ z))
 
 pub returns-then-offsets-starts : goal.returns-then-offsets-starts
 returns-then-offsets-starts c =
     -- past the second test A is not refused, and past the third the factor
-    let of_a_lem : (let a = c.args in
+    let of_a : (let a = c.args in
     first_of (byte_checks a.starts a.entries (misshapen a.dim a.starts a.entries a.a_values a.a_diagonal) ++ matrix_lengths a.dim (a.starts / 4) (a.entries / 4) (a.a_values / 8) (a.a_diagonal / 8)) ≡ 0) = sym c.check_matrix_bytes-of_a.ensures ∙ sym c.number.ensures ∙ c.if-number-ne0.false in
     let of_factor : (let a = c.args in
     first_of (byte_checks a.offsets a.columns (misshapen_factor a.dim a.offsets a.columns a.splits a.diagonal a.values || false) ++ factor_lengths a.dim (a.offsets / 4) (a.columns / 4) (a.splits / 4) (a.diagonal / 8) (a.values / 8)) ≡ 0) = sym c.check_factor_bytes-answer.ensures ∙ sym c.number-2.ensures ∙ c.if-number-ne0-2.false in
     let a = c.args in
-    sym (rows_differ a.dim a.starts a.entries a.a_diagonal a.a_values a.offsets a.columns a.splits a.diagonal a.values of_a_lem of_factor c.if-offsets-starts.true)
+    sym (rows_differ a.dim a.starts a.entries a.a_diagonal a.a_values a.offsets a.columns a.splits a.diagonal a.values of_a of_factor c.if-offsets-starts.true)
 
 pub returns : goal.returns
 returns c =
     -- past the second test A is not refused, and past the third the factor
-    let of_a_lem : (let a = c.args in
+    let of_a : (let a = c.args in
     first_of (byte_checks a.starts a.entries (misshapen a.dim a.starts a.entries a.a_values a.a_diagonal) ++ matrix_lengths a.dim (a.starts / 4) (a.entries / 4) (a.a_values / 8) (a.a_diagonal / 8)) ≡ 0) = sym c.check_matrix_bytes-of_a.ensures ∙ sym c.number.ensures ∙ c.if-number-ne0.false in
     let of_factor : (let a = c.args in
     first_of (byte_checks a.offsets a.columns (misshapen_factor a.dim a.offsets a.columns a.splits a.diagonal a.values || false) ++ factor_lengths a.dim (a.offsets / 4) (a.columns / 4) (a.splits / 4) (a.diagonal / 8) (a.values / 8)) ≡ 0) = sym c.check_factor_bytes-answer.ensures ∙ sym c.number-2.ensures ∙ c.if-number-ne0-2.false in
     let a = c.args in
     c.check_factor_bytes-answer.ensures ∙ of_factor
-    ∙ sym (rows_same a.dim a.starts a.entries a.a_diagonal a.a_values a.offsets a.columns a.splits a.diagonal a.values of_a_lem of_factor c.if-offsets-starts.false)
+    ∙ sym (rows_same a.dim a.starts a.entries a.a_diagonal a.a_values a.offsets a.columns a.splits a.diagonal a.values of_a of_factor c.if-offsets-starts.false)

@@ -188,7 +188,7 @@ row_3-requires c =
     let fit = c.requires in
     let e = filled in (
       c.loop-i.invariant.1,
-      copies fit.patterns c.loop-i.i (omega (arith, fit.patterns.same)) 3 _ fit.of_a_lem _ (part_length _ _ c.loop-i.values e.0 e.1),
+      copies fit.patterns c.loop-i.i (omega (arith, fit.patterns.same)) 3 _ fit.of_a _ (part_length _ _ c.loop-i.values e.0 e.1),
     )
 
 pub loop-i-preserved : goal.loop-i-preserved

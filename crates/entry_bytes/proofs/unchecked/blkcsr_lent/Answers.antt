@@ -6,7 +6,7 @@ use Rattle.pattern_bytes.proofs.RoomLaws.{part_of_room, room_filled}
 use Rattle.entry_bytes.proofs.unchecked.blkcsr_lent.Goals as goal
 
 pub slice_bounds-blkcsr_element-end : goal.slice_bounds-blkcsr_element-end
-slice_bounds-blkcsr_element-end c = sym (part_of_room 8 _ 0 c.requires.2.of_rows_lem.few)
+slice_bounds-blkcsr_element-end c = sym (part_of_room 8 _ 0 c.requires.2.of_rows.few)
 
 pub slice_bounds-blkcsr_element-end-2 : goal.slice_bounds-blkcsr_element-end-2
 slice_bounds-blkcsr_element-end-2 c = sym (part_of_room 8 _ 0 c.requires.2.of_cols.few)
@@ -19,7 +19,7 @@ blkcsr_element-requires c =
     let pre = c.requires in (
       pre.0,
       pre.1,
-      room_filled 4 8 _ 0 pre.2.of_rows_lem,
+      room_filled 4 8 _ 0 pre.2.of_rows,
       room_filled 4 8 _ 0 pre.2.of_cols,
       room_filled 8 576 _ (of_bits binary64 0) pre.2.of_element,
     )

@@ -6,7 +6,7 @@ use lib.ListN.{length}
 use Rattle.solvers.specs.Method.{matrix_of}
 use Rattle.solvers.specs.Solvers.{factor_as}
 use Rattle.advancing.proofs.StepLaws.{ready_same}
-use Rattle.factor_steps.proofs.TurnLaws.{of_rows_lem}
+use Rattle.factor_steps.proofs.TurnLaws.{of_rows}
 use Rattle.factor_steps.proofs.StartLaws.{starts_empty, starts_steps}
 use Rattle.factor_steps.proofs.unchecked.preconditioned_conjugate_gradient.Goals as goal
 
@@ -18,7 +18,7 @@ returns-then-square c =
 
 pub precondition-rho-requires : goal.precondition-rho-requires
 precondition-rho-requires c =
-    (c.requires.1.fits, of_rows_lem c.requires.1 c.requires.0.of_q, of_rows_lem c.requires.1 c.requires.0.of_r)
+    (c.requires.1.fits, of_rows c.requires.1 c.requires.0.of_q, of_rows c.requires.1 c.requires.0.of_r)
 
 pub turns-requires : goal.turns-requires
 turns-requires c =

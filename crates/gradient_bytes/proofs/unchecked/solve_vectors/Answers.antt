@@ -18,7 +18,7 @@ write_back-requires c =
         of_r = omega (arith, c.requires.2.of_r, read.residual, ran.r);
         of_x = omega (arith, c.requires.2.of_x, read.solution, ran.u);
         of_q = omega (arith, c.requires.2.of_q, read.product, ran.ap);
-        of_p_lem = omega (arith, c.requires.2.of_p_lem, read.direction, ran.p);
+        of_p = omega (arith, c.requires.2.of_p, read.direction, ran.p);
       },
       numbers_fit a.dim a.limit a.tolerance a.offs.now a.cols.now a.vals.now a.diag.now (bytes_lent a.r.now a.u.now a.ap.now a.p.now a.history.now)
           _ _ _ _ _ _ _ c.conjugate_gradient-solve.ensures,

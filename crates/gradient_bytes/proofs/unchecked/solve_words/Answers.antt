@@ -25,10 +25,10 @@ pub slice_bounds-solve_vectors-end-3 : goal.slice_bounds-solve_vectors-end-3
 slice_bounds-solve_vectors-end-3 c = sym (part_of_room 12288 _ (of_bits binary64 0) c.requires.0.of_q.few)
 
 pub slice_bounds-direction-end : goal.slice_bounds-direction-end
-slice_bounds-direction-end c = c.requires.0.of_p_lem.few
+slice_bounds-direction-end c = c.requires.0.of_p.few
 
 pub slice_bounds-solve_vectors-end-4 : goal.slice_bounds-solve_vectors-end-4
-slice_bounds-solve_vectors-end-4 c = sym (part_of_room 12288 _ (of_bits binary64 0) c.requires.0.of_p_lem.few)
+slice_bounds-solve_vectors-end-4 c = sym (part_of_room 12288 _ (of_bits binary64 0) c.requires.0.of_p.few)
 
 pub slice_bounds-numbers-end : goal.slice_bounds-numbers-end
 slice_bounds-numbers-end c = c.requires.0.few
@@ -45,7 +45,7 @@ solve_vectors-requires c =
         of_r = fills 8 12288 _ _ held.of_r (part_of_room 12288 _ (of_bits binary64 0) held.of_r.few);
         of_x = fills 8 12288 _ _ held.of_x (part_of_room 12288 _ (of_bits binary64 0) held.of_x.few);
         of_q = fills 8 12288 _ _ held.of_q (part_of_room 12288 _ (of_bits binary64 0) held.of_q.few);
-        of_p_lem = fills 8 12288 _ _ held.of_p_lem (part_of_room 12288 _ (of_bits binary64 0) held.of_p_lem.few);
+        of_p = fills 8 12288 _ _ held.of_p (part_of_room 12288 _ (of_bits binary64 0) held.of_p.few);
       },
       part_of_room 4098 _ (of_bits binary64 0) held.few,
     )
