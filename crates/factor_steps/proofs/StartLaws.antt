@@ -38,6 +38,6 @@ module _ (n : ℕ) (a : Matrix) (g : Factor) (tolerance : Float) (limit : ℕ) (
       → Leaves (with_norms binary64 n a norm (run (by_factor binary64 n a g tolerance (div binary64 (one binary64) square)) limit (state_of r x' z w rho))) words r' u' q' p' h' count
       → Leaves (preconditioned_gradient binary64 n a g tolerance limit r x pr p) words r' u' q' p' h' count
   unfolding preconditioned_gradient dot_all
-  starts_steps x' z w r' u' q' p' h' rho count beside zero_is prepared Copy-is above left =
+  starts_steps x' z w r' u' q' p' h' rho count beside zero_is prepared copy_is above left =
       let rho_is : rho ≡ dot_to binary64 n r z (rows_of a.offsets) = rw beside.same at prepared.of_rho in
-      rw (← is, ← epsilon_is, above, ← root, ← zero_is, ← prepared.of_z, ← rho_is, ← Copy-is) left
+      rw (← is, ← epsilon_is, above, ← root, ← zero_is, ← prepared.of_z, ← rho_is, ← copy_is) left

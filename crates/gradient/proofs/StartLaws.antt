@@ -28,7 +28,7 @@ module _ (n : ℕ) (a : Matrix) (tolerance : Float) (limit : ℕ) (r u ap p word
       → Leaves (run (plain binary64 n a tolerance (div binary64 (one binary64) square)) limit (state_of r x ap w square)) words r' u' ap' p' h' count
       → Leaves (conjugate_gradient binary64 n a tolerance limit r u ap p) words r' u' ap' p' h' count
   unfolding conjugate_gradient dot_all
-  starts_steps x w r' u' ap' p' h' count zero_is Copy-is above left = rw (← is, ← epsilon_is, above, ← zero_is, ← Copy-is) left
+  starts_steps x w r' u' ap' p' h' count zero_is copy_is above left = rw (← is, ← epsilon_is, above, ← zero_is, ← copy_is) left
 
 -- no more ratios than steps are allowed
 pub plain_short : (n : ℕ) (a : Matrix) (tolerance : Float) (limit : ℕ) (r u ap p : List Float) → length (conjugate_gradient binary64 n a tolerance limit r u ap p).history ≤ limit

@@ -1,5 +1,5 @@
 -- Document 01, "Numbers to check by hand", case 12, and a few more roots, computed from the definitions.
--- `sqrt` is an answer by `sqrt-answers` of `proofs/Meaning.antt`, so each equation is also a fact of `Rooted`. Assumes nothing.
+-- `sqrt` is an answer by `sqrt_answers` of `proofs/Meaning.antt`, so each equation is also a fact of `Rooted`. Assumes nothing.
 use mathlib.Core.Path.{◌≡◌, refl, subst}
 use mathlib.Core.Bool.{true, false}
 use lib.IntN.{pos, negsuc}

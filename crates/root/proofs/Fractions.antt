@@ -1,5 +1,5 @@
 -- From the integers to the values of a format: a value that fits is p * 2 ^ j of the smallest ones, and fractions over that unit compare as their numerators do.
--- `near-root` is the theorem that the nearest whole root makes the nearest value, for either format. Assumes nothing.
+-- `near_root` is the theorem that the nearest whole root makes the nearest value, for either format. Assumes nothing.
 use mathlib.Core.Path.{◌≡◌, sym, ap, ◌∙◌, subst}
 use mathlib.Core.Bool.{true, false, ◌&&◌}
 use Prim.Native.Nat.{ℕ, zero, suc, ◌+◌, ◌-◌, ◌*◌, ◌%◌, ◌^◌, ◌≤◌, ◌<◌}

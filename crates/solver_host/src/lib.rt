@@ -6,7 +6,7 @@ pub mod timed;
 
 ghost use Rattle.std.specs.Float.{binary64};
 ghost use Rattle.gradient.specs.Answers.{solution_of, plain_run};
-ghost use Rattle.preconditioned_gradient.specs.Answers.{solution_of as normsOf, preconditioned_run};
+ghost use Rattle.preconditioned_gradient.specs.Answers.{solution_of as norms_of, preconditioned_run};
 ghost use Rattle.solve_outcomes.specs.Numbers.{FinishedSolve};
 ghost use Rattle.solver_bytes.specs.Lent.{LentBytes, bytes_lent, words_lent, matrix_in, bytes_left_by};
 ghost use Rattle.gradient_bytes.specs.Checks.{plain_byte_checks};
@@ -63,7 +63,7 @@ pub extern "C" fn pierbramble_preconditioned_conjugate_gradient(
     history: &mut [u8],
 ) -> Solved
     ensures { FinishedSolve {A = LentBytes} binary64 (preconditioned_byte_checks dim limit starts.now entries.now a_values.now a_diagonal.now offsets.now columns.now splits.now diagonal.now values.now (bytes_lent r.old x.old pr.old p.old history.old))
-        (normsOf binary64 limit (preconditioned_run dim limit (matrix_in binary64 starts.now entries.now a_values.now a_diagonal.now) (factor_in binary64 offsets.now columns.now splits.now diagonal.now values.now) tolerance (words_lent binary64 (bytes_lent r.old x.old pr.old p.old history.old))).history) result
+        (norms_of binary64 limit (preconditioned_run dim limit (matrix_in binary64 starts.now entries.now a_values.now a_diagonal.now) (factor_in binary64 offsets.now columns.now splits.now diagonal.now values.now) tolerance (words_lent binary64 (bytes_lent r.old x.old pr.old p.old history.old))).history) result
         (bytes_left_by binary64 (preconditioned_run dim limit (matrix_in binary64 starts.now entries.now a_values.now a_diagonal.now) (factor_in binary64 offsets.now columns.now splits.now diagonal.now values.now) tolerance (words_lent binary64 (bytes_lent r.old x.old pr.old p.old history.old))) history.old)
         (bytes_lent r.old x.old pr.old p.old history.old) (bytes_lent r.new x.new pr.new p.new history.new) }
 {

@@ -5,7 +5,7 @@ ghost use Rattle.solvers.specs.Method.{matrix_of};
 ghost use Rattle.solvers.specs.Solvers.{factor_as};
 ghost use Rattle.solvers.specs.Promise.{Lent, lent_of, left_by};
 ghost use Rattle.gradient.specs.Answers.{solution_of, plain_run};
-ghost use Rattle.preconditioned_gradient.specs.Answers.{solution_of as normsOf, preconditioned_run};
+ghost use Rattle.preconditioned_gradient.specs.Answers.{solution_of as norms_of, preconditioned_run};
 ghost use Rattle.solve_outcomes.specs.Numbers.{FinishedSolve};
 ghost use Rattle.numbered_gradient.specs.Calls.{plain_call_checks};
 ghost use Rattle.numbered_preconditioned.specs.Calls.{preconditioned_call_checks};
@@ -58,7 +58,7 @@ pub extern "C" fn pierbramble_timed_preconditioned_conjugate_gradient(
     history: &mut [f64],
 ) -> Solved
     ensures { FinishedSolve {A = Lent} binary64 (preconditioned_call_checks dim limit (matrix_of starts.now entries.now a_values.now a_diagonal.now) (factor_as offsets.now columns.now splits.now diagonal.now values.now) (lent_of r.old x.old pr.old p.old history.old))
-        (normsOf binary64 limit (preconditioned_run dim limit (matrix_of starts.now entries.now a_values.now a_diagonal.now) (factor_as offsets.now columns.now splits.now diagonal.now values.now) tolerance (lent_of r.old x.old pr.old p.old history.old)).history) result
+        (norms_of binary64 limit (preconditioned_run dim limit (matrix_of starts.now entries.now a_values.now a_diagonal.now) (factor_as offsets.now columns.now splits.now diagonal.now values.now) tolerance (lent_of r.old x.old pr.old p.old history.old)).history) result
         (left_by (preconditioned_run dim limit (matrix_of starts.now entries.now a_values.now a_diagonal.now) (factor_as offsets.now columns.now splits.now diagonal.now values.now) tolerance (lent_of r.old x.old pr.old p.old history.old)) history.old)
         (lent_of r.old x.old pr.old p.old history.old) (lent_of r.new x.new pr.new p.new history.new) }
 {

@@ -1,5 +1,5 @@
 -- The verdict theorem: what each verdict of a solve says of the right side, of the steps and of the history, and that it says so exactly.
--- `factorBelow g t k`, or `plainBelow t k`, says that the ratio of step k + 1 is below the tolerance. Assumes nothing.
+-- `factor_below g t k`, or `plain_below t k`, says that the ratio of step k + 1 is below the tolerance. Assumes nothing.
 use mathlib.Core.Path.{◌≡◌}
 use mathlib.Core.Logic.{◌↔◌, ◌⊎◌, ⊎_elim}
 use mathlib.Core.Bool.{true, false}
