@@ -1,9 +1,9 @@
 -- What the checks of lengths leave, as far as both solvers share it.
 -- Assumes nothing.
-use mathlib.Core.Path.{◌≡◌, refl, sym, ap, ◌∙◌}
+use mathlib.Core.Path.{◌≡◌, refl, ap, ◌∙◌}
 use mathlib.Core.Bool.{Bool, true, false, not, ◌&&◌, ◌||◌}
 use Prim.Native.Nat.{ℕ, ◌*◌, ◌≤◌}
-use lib.Dec.{eqb, ltb}
+use lib.Dec.{ltb}
 use borrow.Author.Tests.{eq-eqb, eqb-true, ltb-false, not-true, not-false}
 use Rattle.base.proofs.All.{and_left, and_right, or_left, or_right}
 use Rattle.answers.specs.Limits.{iterations_out_of_range, wrong_length}

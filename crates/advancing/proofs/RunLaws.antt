@@ -1,15 +1,15 @@
 -- A run in the middle of its loop: the steps that are left lead where all of them lead.
 -- For any method. Assumes nothing.
-use mathlib.Core.Path.{◌≡◌, refl, sym, ap, ◌∙◌}
+use mathlib.Core.Path.{◌≡◌, refl, ap, ◌∙◌}
 use mathlib.Core.List.{List, [], ◌∷◌, ◌++◌, append_assoc, append-nil}
 use mathlib.Core.Bool.{Bool, true, false, cond}
 use Prim.Native.Nat.{ℕ, zero, suc, ◌+◌, ◌-◌, ◌≤◌, ◌<◌}
 use native.Mathlib.Omega.{arith}
-use lib.ListN.{length, set, length-append, length-set}
+use lib.ListN.{length, set, length-append}
 use lib.Ieee.{Float}
 use Rattle.solvers.specs.Method.{State, Method, Run, noted, run}
 use Rattle.solvers.specs.Promise.{over}
-use Rattle.advancing.proofs.OverLaws.{over_none, set_over, length_over}
+use Rattle.advancing.proofs.OverLaws.{set_over, length_over}
 
 -- a run after numbers that are written already
 abbrev pub prefixed : List Float → Run → Run

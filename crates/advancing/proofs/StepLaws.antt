@@ -1,10 +1,9 @@
 -- A step from what its parts leave, and its lengths when they change hands.
 -- Assumes nothing.
-use mathlib.Core.Path.{◌≡◌, refl, sym, ap, ◌∙◌}
+use mathlib.Core.Path.{◌≡◌, refl, ◌∙◌}
 use mathlib.Core.List.{List}
-use Prim.Native.Nat.{ℕ, ◌*◌}
-use lib.ListN.{length}
-use lib.Ieee.{Float, Format, binary64, div, neg, of_bits, of_fields, odd}
+use Prim.Native.Nat.{ℕ}
+use lib.Ieee.{Float, binary64, div, neg, of_bits, of_fields, odd}
 use Rattle.patterns.specs.Pattern.{rows_of}
 use Rattle.vectors.specs.Vectors.{add_scaled, dot_to}
 use Rattle.matrix.specs.Product.{mult_vec}

@@ -7,8 +7,8 @@ use Prim.Native.Nat.{ℕ}
 use native.Mathlib.Omega.{arith}
 use lib.Dec.{eqb}
 use borrow.Author.Tests.{eq-eqb}
+use Rattle.answers.specs.Numbers.{Answer}
 use Rattle.base.proofs.All.{or_left, or_right}
-use Rattle.answers.specs.declared.Answer.{Answer}
 use Rattle.answers.specs.Numbers.{number_of}
 use Rattle.answers.specs.Checks.{Check, ◌when◌, first_of, none_holds}
 use Rattle.answers.specs.Promise.{after, Ends, names}
@@ -57,22 +57,22 @@ pub ends_later : {A : Type 0} (earlier later : List Check) (answer : Answer) (ne
 ends_later earlier later answer new old left none end =
     record { number = end.number ∙ sym (left_to_later earlier later none); lent = rw (none_later earlier later none) end.lent }
 
--- And one that an earlier check refuses ends there. k is the answer's number as the code has it.
-pub ends_earlier : {A : Type 0} (earlier later : List Check) (answer : Answer) (k : ℕ) (new old : A) → number_of answer ≡ first_of earlier → k ≡ number_of answer
-    → (k ≡ 0 → ⊥) → Ends (earlier ++ later) answer new old old
-ends_earlier earlier later answer k new old first is other =
-    let some : first_of earlier ≡ 0 → ⊥ = λ z. other (is ∙ first ∙ z) in
+-- And one that an earlier check refuses ends there.
+pub ends_earlier : {A : Type 0} (earlier later : List Check) (answer : Answer) (new old : A) → number_of answer ≡ first_of earlier → (number_of answer ≡ 0 → ⊥)
+    → Ends (earlier ++ later) answer new old old
+ends_earlier earlier later answer new old first other =
+    let some : first_of earlier ≡ 0 → ⊥ = λ z. other (first ∙ z) in
     let all : first_of (earlier ++ later) ≡ first_of earlier = refused_earlier earlier later some in
     record { number = first ∙ sym all; lent = rw (some_of_number (earlier ++ later) (λ z. some (sym all ∙ z))) }
 
--- The two ends of a checked call, over any operation: it is refused and nothing has changed, or it is done. k is the answer's number as the code has it.
-module _ {A : Type 0} (checks : List Check) (answer : Answer) (k : ℕ) (first : number_of answer ≡ first_of checks) (is : k ≡ number_of answer) where
-  pub refused : (new old : A) → (k ≡ 0 → ⊥) → Ends checks answer new old old
-  refused new old other = record { number = first; lent = rw (some_of_number checks (λ z. other (is ∙ first ∙ z))) }
+-- The two ends of a checked call, over any operation: it is refused and nothing has changed, or it is done.
+module _ {A : Type 0} (checks : List Check) (answer : Answer) (first : number_of answer ≡ first_of checks) where
+  pub refused : (new old : A) → (number_of answer ≡ 0 → ⊥) → Ends checks answer new old old
+  refused new old other = record { number = first; lent = rw (some_of_number checks (λ z. other (first ∙ z))) }
 
-  pub done : (new old left : A) → names 0 checks ≡ false → k ≡ 0 → left ≡ new → Ends checks answer new old left
+  pub done : (new old left : A) → names 0 checks ≡ false → number_of answer ≡ 0 → left ≡ new → Ends checks answer new old left
   done new old left unnamed zero_is right =
-      record { number = first; lent = rw (none_of_zero checks unnamed (sym first ∙ sym is ∙ zero_is)) right }
+      record { number = first; lent = rw (none_of_zero checks unnamed (sym first ∙ zero_is)) right }
 
 -- Two calls that meet one promise, and do not answer 9, agree in everything.
 module _ {A : Type 0} (checks : List Check) (new old : A) (a b : Answer) (x y : A) (p : Ends checks a new old x) (q : Ends checks b new old y) where

@@ -2,13 +2,13 @@
 // The numbers are document 01's; `specs/Numbers.antt` says which case has which.
 #![tactic(auto)]
 
-ghost use Rattle.std.specs.Prelude.{◌≡◌};
+ghost use Rattle.std.specs.Prelude.{◌≡◌, ℕ};
 ghost use Rattle.answers.specs.Numbers.{number_of, row_of, refusal_number, refusal_row};
 ghost use Rattle.answers.specs.Checks.{first_of};
 ghost use Rattle.answers.specs.Limits.{outside_of, rows_out_of_range, entries_out_of_range, nodes_out_of_range, iterations_out_of_range, is_place, wrong_length, vector_checks};
 
 // Why a call refuses, one case for each of document 01's numbers, in its checking order.
-#[derive(Clone, Copy)]
+#[derive(Clone, Copy, Debug, PartialEq, Eq)]
 pub enum Refusal {
     Size,
     Limit,
@@ -23,11 +23,20 @@ pub enum Refusal {
     Singular(u32),
 }
 
-// What a call answers that has nothing else to say.
-#[derive(Clone, Copy)]
-pub enum Answer {
-    Done,
-    Refused(Refusal),
+// What a call answers: what it found, or why it refuses. A call that has nothing else to say answers `Ok(())`.
+pub type Answer<T = ()> = Result<T, Refusal>;
+
+// 0 if the call is done, else the number of its refusal, and the row that goes with it.
+pub trait Numbered {
+    ghost number: { Self → ℕ };
+
+    ghost row: { Self → ℕ };
+
+    fn number(self) -> u32
+        ensures { result ≡ number self };
+
+    fn row(self) -> u32
+        ensures { result ≡ row self };
 }
 
 // Whether x is below the least number of a range or above the most.
@@ -135,38 +144,28 @@ impl Refusal {
         ensures { result ≡ refusal_row self }
     {
         match self {
-            Refusal::Size => 0,
-            Refusal::Limit => 0,
-            Refusal::Shape => 0,
-            Refusal::Pattern => 0,
-            Refusal::Split => 0,
-            Refusal::Node => 0,
-            Refusal::NoEntry => 0,
-            Refusal::NoPlace => 0,
-            Refusal::Level => 0,
-            Refusal::Room => 0,
             Refusal::Singular(row) => row,
+            _ => 0,
         }
     }
 }
 
-impl Answer {
-    // 0 if the call is done, else the number of its refusal.
-    pub fn number(self) -> u32
-        ensures { result ≡ number_of self }
-    {
+impl<T: Copy> Numbered for Answer<T> {
+    ghost number = { number_of };
+
+    ghost row = { row_of };
+
+    fn number(self) -> u32 {
         match self {
-            Answer::Done => 0,
-            Answer::Refused(why) => why.number(),
+            Ok(_) => 0,
+            Err(why) => why.number(),
         }
     }
 
-    pub fn row(self) -> u32
-        ensures { result ≡ row_of self }
-    {
+    fn row(self) -> u32 {
         match self {
-            Answer::Done => 0,
-            Answer::Refused(why) => why.row(),
+            Ok(_) => 0,
+            Err(why) => why.row(),
         }
     }
 }
@@ -183,10 +182,10 @@ pub fn check_vector(n: u32, dim: u32, length: usize) -> Answer
     ensures { number_of result ≡ first_of (vector_checks n dim length) }
 {
     if Rows(n as usize).out_of_range() {
-        return Answer::Refused(Refusal::Size);
+        return Err(Refusal::Size);
     }
     if wrong_length(n, dim, length) {
-        return Answer::Refused(Refusal::Shape);
+        return Err(Refusal::Shape);
     }
-    Answer::Done
+    Ok(())
 }

@@ -8,7 +8,7 @@ use native.Mathlib.Omega.{arith}
 use lib.Dec.{leb}
 use lib.ListN.{length}
 use lib.Ieee.{Float, Format, binary64}
-use Rattle.answers.specs.declared.Answer.{Answer}
+use Rattle.answers.specs.Numbers.{Answer}
 use Rattle.answers.specs.Limits.{outside_of}
 use Rattle.answers.specs.Promise.{Ends}
 use Rattle.lent.specs.Steps.{Dim}

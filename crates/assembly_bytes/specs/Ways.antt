@@ -1,8 +1,8 @@
 -- Which call is asked for, the lists that it changes as bytes, and what the functions between the checks and the call ask of the bytes.
 -- Definitions only. Public promises cite `lists_in` and `bytes_of_lists` alone.
+use Rattle.answers.specs.Numbers.{Answer}
 use Rattle.std.specs.Prelude.{◌≡◌, List, ℕ, ◌-◌, ◌*◌, ◌/◌, ◌≤◌, length, Float}
 use Rattle.std.specs.Float.{Format}
-use Rattle.answers.specs.declared.Answer.{Answer}
 use Rattle.answers.specs.Promise.{Ends}
 use Rattle.wire.specs.Bytes.{bytes_each, values_in, bytes_of}
 use Rattle.wire.specs.Words.{indexes_in}

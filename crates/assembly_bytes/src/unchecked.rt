@@ -86,12 +86,9 @@ fn assemble_in(
 {
     decode_pattern(offs, inds, offsets, columns);
     decode_lists(ds, vs, diagonal, values);
-    let answer = assemble_words(ds, vs, dim, call, rows, cols, element, offs, inds);
-    if answer.number() != 0 {
-        return answer;
-    }
+    assemble_words(ds, vs, dim, call, rows, cols, element, offs, inds)?;
     encode_lists(diagonal, values, ds, vs);
-    answer
+    Ok(())
 }
 
 // With room of its own. A call of few words does not clear the room of the largest matrix.

@@ -1,4 +1,3 @@
 -- What is proved about the block operations on bytes, besides each function's promise.
 -- Assumes nothing.
-pub mod ShapeLaws
 pub mod OperationLaws

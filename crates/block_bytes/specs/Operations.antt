@@ -1,8 +1,8 @@
 -- The block operations, by one name each: how many values they have at N, what they result in, and what they check.
 -- Definitions only.
+use Rattle.answers.specs.Numbers.{Answer}
 use Rattle.std.specs.Prelude.{◌≡◌, List, [], ◌∷◌, ℕ, ◌*◌, Float}
 use Rattle.std.specs.Float.{Format}
-use Rattle.answers.specs.declared.Answer.{Answer}
 use Rattle.answers.specs.Numbers.{number_of, row_of}
 use Rattle.answers.specs.Checks.{Check, first_of, ◌when◌}
 use Rattle.blocks.specs.Block.{product, applied, scaled, added, subtracted}

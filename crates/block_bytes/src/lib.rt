@@ -15,6 +15,7 @@ ghost use Rattle.outcomes.specs.Calls.{◌bytes_for◌, misshapen, Answered};
 ghost use Rattle.block_bytes.specs.Operations.{first_count, second_count, result_of, later_of, lent_of, Shaped, Completed, Written};
 
 use answers::Answer;
+use blocks::{One, Size, Three, Two};
 use lent::unchecked::{
     add_each, apply_each, inverse_each, product_each, scale_each, subtract_each,
 };
@@ -92,66 +93,78 @@ fn is_misshapen(op: Operation, dim: u32, a: usize, b: usize, out: usize) -> bool
 }
 
 // An operation on values, each slice of the length that it has at N.
-fn operate(op: Operation, dim: usize, s: f64, x: &[f64], y: &[f64], z: &mut [f64]) -> Answer
-    requires { Shaped op dim 1 (length x.now) (length y.now) (length z.old) }
-    ensures { Completed binary64 op dim s x.now y.now z.new result }
+fn operate<S: Size>(op: Operation, s: f64, x: &[f64], y: &[f64], z: &mut [f64]) -> Answer
+    requires { Shaped op S.DIM 1 (length x.now) (length y.now) (length z.old) }
+    ensures { Completed binary64 op S.DIM s x.now y.now z.new result }
 {
     match op {
-        Operation::Apply => apply_each(z, dim, x, y, 1),
-        Operation::Product => product_each(z, dim, x, y, 1),
-        Operation::Scale => scale_each(z, x.len(), x, s, 1),
-        Operation::Add => add_each(z, x.len(), x, y, 1),
-        Operation::Subtract => subtract_each(z, x.len(), x, y, 1),
-        Operation::AddBlock => add_each(z, x.len(), x, y, 1),
-        Operation::SubtractBlock => subtract_each(z, x.len(), x, y, 1),
-        Operation::Inverse => return inverse_each(z, dim, x, 1),
+        Operation::Apply => apply_each::<S>(z, x, y, 1),
+        Operation::Product => product_each::<S>(z, x, y, 1),
+        Operation::Scale => scale_each::<S::Row>(z, x, s, 1),
+        Operation::Add => add_each::<S::Row>(z, x, y, 1),
+        Operation::Subtract => subtract_each::<S::Row>(z, x, y, 1),
+        Operation::AddBlock => add_each::<S::Block>(z, x, y, 1),
+        Operation::SubtractBlock => subtract_each::<S::Block>(z, x, y, 1),
+        Operation::Inverse => return inverse_each::<S>(z, x, 1),
     }
-    Answer::Done
+    Ok(())
 }
 
 // The way from bytes to bytes, in room that is lent for the values: the operands are read, and the result is written over out.
-fn work_in(
+#[tactic(auto, using(crate::proofs::OperationLaws::written))]
+fn work_in<S: Size>(
     x: &mut [f64],
     y: &mut [f64],
     z: &mut [f64],
     out: &mut [u8],
     op: Operation,
-    dim: usize,
     s: f64,
     a: &[u8],
     b: &[u8],
 ) -> Answer
-    requires { (Shaped op dim 1 (length x.old) (length y.old) (length z.old)) × (Shaped op dim 8 (length a.now) (length b.now) (length out.old)) }
-    ensures { Written binary64 op dim s a.now b.now out.new result }
+    requires { (Shaped op S.DIM 1 (length x.old) (length y.old) (length z.old)) × (Shaped op S.DIM 8 (length a.now) (length b.now) (length out.old)) }
+    ensures { Written binary64 op S.DIM s a.now b.now out.new result }
 {
     decode(a, x);
     decode(b, y);
-    let answer = operate(op, dim, s, x, y, z);
+    let answer = operate::<S>(op, s, x, y, z);
     encode(z, out);
     answer
 }
 
 // The same with room for the values of the largest blocks.
-fn work(out: &mut [u8], op: Operation, dim: usize, s: f64, a: &[u8], b: &[u8]) -> Answer
-    requires { Shaped op dim 8 (length a.now) (length b.now) (length out.old) }
-    ensures { Written binary64 op dim s a.now b.now out.new result }
+fn work<S: Size>(out: &mut [u8], op: Operation, s: f64, a: &[u8], b: &[u8]) -> Answer
+    requires { Shaped op S.DIM 8 (length a.now) (length b.now) (length out.old) }
+    ensures { Written binary64 op S.DIM s a.now b.now out.new result }
 {
-    let first = first_count(op, dim);
-    let second = second_count(op, dim);
+    let n = S::DIM;
+    let first = first_count(op, n);
+    let second = second_count(op, n);
     let mut x = [0.0; 9];
     let mut y = [0.0; 9];
     let mut z = [0.0; 9];
-    work_in(
+    work_in::<S>(
         &mut x[..first],
         &mut y[..second],
         &mut z[..second],
         out,
         op,
-        dim,
         s,
         a,
         b,
     )
+}
+
+// The size by its number.
+fn work_at(out: &mut [u8], op: Operation, dim: u32, s: f64, a: &[u8], b: &[u8]) -> Answer
+    requires { Shaped op dim 8 (length a.now) (length b.now) (length out.old) }
+    ensures { Written binary64 op dim s a.now b.now out.new result }
+{
+    match dim {
+        1 => work::<One>(out, op, s, a, b),
+        2 => work::<Two>(out, op, s, a, b),
+        _ => work::<Three>(out, op, s, a, b),
+    }
 }
 
 // An operation: refused with 2, or worked.
@@ -164,7 +177,7 @@ fn run(op: Operation, dim: u32, s: f64, a: &[u8], b: &[u8], out: &mut [u8]) -> O
     if is_misshapen(op, dim, a.len(), b.len(), out.len()) {
         return Outcome { number: 2, row: 0 };
     }
-    outcome_of(work(out, op, dim as usize, s, a, b))
+    outcome_of(work_at(out, op, dim, s, a, b))
 }
 
 // Block times vector.

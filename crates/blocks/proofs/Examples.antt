@@ -1,11 +1,11 @@
 -- Worked examples computed from the definitions: the pivots of document 01's cases 8 and 9 as blocks, and what is said at the edges.
 -- Assumes nothing.
 use mathlib.Core.Path.{◌≡◌, refl}
-use mathlib.Core.List.{List, [], ◌∷◌}
+use mathlib.Core.List.{[], ◌∷◌}
 use mathlib.Core.Bool.{true, false}
 use Prim.Native.Nat.{ℕ}
 use lib.IntN.{pos, negsuc}
-use lib.Ieee.{Float, nan, inf, fin, binary32, binary64, add, sub, mul, div, neg, eq, of_bits, of_int, odd, round, units, span, climb, size, sum}
+use lib.Ieee.{Float, nan, fin, binary32, binary64, add, sub, mul, div, neg, eq, of_bits, of_int, odd, round, units, span, climb, size, sum}
 use Rattle.blocks.specs.Block.{plus_zero, product, applied, subtracted}
 use Rattle.blocks.specs.Inverse.{one, inverse, singular}
 

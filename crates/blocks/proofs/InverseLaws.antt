@@ -1,24 +1,21 @@
--- The two ways in which an inverse is answered, over the format and N, and that its promise fixes the answer and the block.
+-- Each inverse's promise fixes its answer: two that meet it are the same, where the values of a block fix the block.
 -- Assumes nothing.
-use mathlib.Core.Path.{◌≡◌, refl, sym, ◌∙◌}
+use mathlib.Core.Path.{◌≡◌, sym, ap, ◌∙◌}
 use mathlib.Core.List.{List}
-use mathlib.Core.Bool.{true, false}
 use Prim.Native.Nat.{ℕ}
+use native.Mathlib.Omega.{arith}
 use lib.Ieee.{Float, Format}
-use Rattle.answers.specs.declared.Answer.{Answer}
-use Rattle.answers.specs.declared.Answer.TheVariants.{Done, Refused}
-use Rattle.answers.specs.declared.Refusal.TheVariants.{Singular}
-use Rattle.answers.proofs.SameAnswer.{same_answer}
-use Rattle.blocks.specs.Inverse.{singular, inverse, Inverted}
+use Rattle.std.specs.Prelude.{Result, Ok, Err}
+use Rattle.blocks.specs.declared.NoInverse.{NoInverse}
+use Rattle.blocks.specs.Inverse.{inverse_number, inverse_block, Inverted}
 
-module _ (f : Format) (n : ℕ) (a : List Float) where
-  pub refused : singular f n a ≡ true → Inverted f n a (Refused (Singular 0)) a
-  refused zero = record { number = rw zero; row = rw zero; left = rw zero }
+same_result : {B : Type 0} (x y : Result B (NoInverse B)) → inverse_number x ≡ inverse_number y → inverse_block x ≡ inverse_block y → x ≡ y
+same_result (Ok u) (Ok v) numbers blocks = ap Ok blocks
+same_result (Ok u) (Err v) numbers blocks = absurd (omega (arith, numbers))
+same_result (Err u) (Ok v) numbers blocks = absurd (omega (arith, numbers))
+same_result (Err u) (Err v) numbers blocks = ap (λ block. Err (record { block = block })) blocks
 
-  pub inverted : singular f n a ≡ false → (block : List Float) → block ≡ inverse f n a → Inverted f n a Done block
-  inverted nonzero block right = record { number = rw nonzero; row = rw nonzero; left = rw nonzero right }
-
-  -- two answers that meet the promise agree
-  pub same_inverse : (x y : Answer) (u v : List Float) → Inverted f n a x u → Inverted f n a y v → (x ≡ y) × (u ≡ v)
-  same_inverse x y u v p q =
-      (same_answer x y (p.number ∙ sym q.number) (p.row ∙ sym q.row), p.left ∙ sym q.left)
+pub same_inverse : {B : Type 0} (f : Format) (n : ℕ) (list : B → List Float) (fixed : (u v : B) → list u ≡ list v → u ≡ v) (a : List Float)
+    (x y : Result B (NoInverse B)) → Inverted f n list a x → Inverted f n list a y → x ≡ y
+same_inverse f n list fixed a x y p q =
+    same_result x y (p.number ∙ sym q.number) (fixed (inverse_block x) (inverse_block y) (p.left ∙ sym q.left))

@@ -1,8 +1,9 @@
 -- Document 01's "Small blocks": products, sums and scaling of blocks and vectors of floats, at any format f and any N.
 -- Definitions only.
-use Rattle.std.specs.Prelude.{List, [], ◌∷◌, ◌++◌, ℕ, zero, suc, ◌+◌, ◌*◌, ◌/◌, ◌%◌, get_or, Float}
+use Rattle.std.specs.Prelude.{Bool, not, List, [], ◌∷◌, ◌++◌, ℕ, zero, suc, ◌+◌, ◌*◌, ◌/◌, ◌%◌, get_or, Float}
 use Rattle.std.specs.Float.{Format, nan}
-use Rattle.std.specs.Float.Ieee.{add, sub, mul, of_bits}
+use Rattle.std.specs.Float.Ieee.{add, sub, mul, eq, of_bits}
+use Rattle.base.specs.All.{all_to}
 
 -- +0
 abbrev pub plus_zero : Format → Float
@@ -33,6 +34,20 @@ product f n a b = block_of n (λ r c. sum_to f n (λ q. mul f (element n a r q) 
 -- block times vector likewise: value r sums a(r,q) * x(q)
 abbrev pub applied : Format → ℕ → List Float → List Float → List Float
 applied f n a x = listed n (λ r. sum_to f n (λ q. mul f (element n a r q) (get_or x q nan)))
+
+-- a sum that begins with its first term
+abbrev pub bare_sum : Format → ℕ → (ℕ → Float) → Float
+bare_sum f zero term = plus_zero f
+bare_sum f (suc zero) term = term 0
+bare_sum f (suc (suc m)) term = add f (bare_sum f (suc m) term) (term (suc m))
+
+-- block times vector with such sums: a value may be a zero of another sign, and else is the same
+abbrev pub applied_bare : Format → ℕ → List Float → List Float → List Float
+applied_bare f n a x = listed n (λ r. bare_sum f n (λ q. mul f (element n a r q) (get_or x q nan)))
+
+-- none of the m values compares equal to zero
+abbrev pub no_zero : Format → ℕ → List Float → Bool
+no_zero f m v = all_to (λ k. not (eq (get_or v k nan) (plus_zero f))) m
 
 -- scaling multiplies each of the m values
 abbrev pub scaled : Format → ℕ → List Float → Float → List Float

@@ -1,11 +1,13 @@
 -- Document 01's inverse of a block, for N = 1, 2, 3, at any format f: the determinant d, the inverse with s = 1/d, and what a call answers.
 -- Definitions only.
-use Rattle.std.specs.Prelude.{◌≡◌, List, [], ◌∷◌, Bool, cond, ℕ, zero, suc, ◌+◌, ◌*◌, ◌%◌, Float}
+use Rattle.std.specs.Prelude.{◌≡◌, List, [], ◌∷◌, Bool, cond, ℕ, zero, suc, ◌+◌, ◌*◌, ◌%◌, Float, Result, Ok, Err}
 use Rattle.std.specs.Float.{Format, nan}
 use Rattle.std.specs.Float.Ieee.{add, sub, mul, div, neg, eq, of_bits, emax, hid}
-use Rattle.answers.specs.declared.Answer.{Answer}
-use Rattle.answers.specs.Numbers.{number_of, values_of}
+use Rattle.answers.specs.declared.Refusal.{Refusal}
+use Rattle.answers.specs.declared.Refusal.TheVariants.{Singular}
+use Rattle.answers.specs.Numbers.{refusal_number, refusal_values}
 use Rattle.answers.specs.Checks.{first_of, ◌when◌}
+use Rattle.blocks.specs.declared.NoInverse.{NoInverse}
 use Rattle.blocks.specs.Block.{plus_zero, element, block_of}
 
 -- 1: the bits of its exponent are those of 2^0, and its digits are 0
@@ -42,8 +44,26 @@ inverse f n a = inverse_by f n a (div f (one f) (determinant f n a))
 abbrev pub singular : Format → ℕ → List Float → Bool
 singular f n a = eq (determinant f n a) (plus_zero f)
 
--- what the call answers: 9 with row 0 and the block as given, or the inverse
-pub record Inverted (f : Format) (n : ℕ) (a : List Float) (answer : Answer) (block : List Float) : Type 0 where
-  pub number : number_of answer ≡ first_of ((9 when singular f n a) ∷ [])
-  pub row : values_of answer ≡ cond (singular f n a) (0 ∷ []) []
-  pub left : block ≡ cond (singular f n a) a (inverse f n a)
+-- what a block without an inverse is refused with: 9, and row 0
+abbrev pub refusal_of : {B : Type 0} → NoInverse B → Refusal
+refusal_of why = Singular 0
+
+-- the number that an inverse answers, and the values that go with it: 0 is the inverse
+abbrev pub inverse_number : {B : Type 0} → Result B (NoInverse B) → ℕ
+inverse_number (Ok block) = 0
+inverse_number (Err why) = refusal_number (refusal_of why)
+
+abbrev pub inverse_values : {B : Type 0} → Result B (NoInverse B) → List ℕ
+inverse_values (Ok block) = []
+inverse_values (Err why) = refusal_values (refusal_of why)
+
+-- the block that it hands back
+abbrev pub inverse_block : {B : Type 0} → Result B (NoInverse B) → B
+inverse_block (Ok block) = block
+inverse_block (Err why) = why.block
+
+-- what the call answers: 9 with row 0 and the block as given, or the inverse. `list` says which values a block has
+pub record Inverted {B : Type 0} (f : Format) (n : ℕ) (list : B → List Float) (a : List Float) (result : Result B (NoInverse B)) : Type 0 where
+  pub number : inverse_number result ≡ first_of ((9 when singular f n a) ∷ [])
+  pub row : inverse_values result ≡ cond (singular f n a) (0 ∷ []) []
+  pub left : list (inverse_block result) ≡ cond (singular f n a) a (inverse f n a)

@@ -3,3 +3,4 @@
 pub mod Block
 pub mod Inverse
 pub mod Lent
+pub mod Size

@@ -1,76 +1,87 @@
-// Blocks and rows read out of a lent slice, and written back: for the crates above, whose checks have shown that they are there.
+// Rows and blocks read out of a lent slice, and written back: for the crates above, whose checks have shown that they are there.
 // These functions ask that of their callers, so that no user calls them.
-ghost use Rattle.std.specs.Prelude.{◌≡◌, ◌+◌, ◌*◌, ◌≤◌, length};
-ghost use Rattle.blocks.specs.Lent.{block_at, vector_at, put_at};
+ghost use Rattle.std.specs.Prelude.{◌≡◌, ℕ, ◌+◌, ◌*◌, ◌<◌, ◌≤◌, length, get_or, Float};
+ghost use Rattle.std.specs.Float.{nan};
+ghost use Rattle.blocks.specs.Block.{listed};
+ghost use Rattle.blocks.specs.Lent.{values_at, block_at, vector_at, put_at};
+
+use crate::{Size, Values};
+
+// Values that stand in a slice part by part, one after the other.
+pub trait Lent: Values {
+    // Part k, by value.
+    fn at(values: &[f64], k: usize) -> Self
+        requires { Self.count * k + Self.count ≤ length values.now }
+        ensures { Self.list result ≡ values_at Self.count values.now (Self.count * k) };
+
+    // Part k, written back.
+    fn put(self, values: &mut [f64], k: usize)
+        requires { Self.count * k + Self.count ≤ length values.old }
+        ensures whole { length (Self.list self) ≡ Self.count }
+        ensures put { values.new ≡ put_at (Self.count * k) (Self.list self) values.old };
+
+    // Each value anew, from its place and itself.
+    fn map<F: Fn(usize, f64) -> f64>(self, f: F) -> Self
+        requires { (k : ℕ) (x : Float) → k < Self.count → F.pre f k x }
+        ensures { (g : ℕ → Float → Float) → ((k : ℕ) (x y : Float) → k < Self.count → F.post f k x y → y ≡ g k x)
+            → Self.list result ≡ listed Self.count (λ k. g k (get_or (Self.list self) k nan)) };
+}
+
+impl<const L: usize> Lent for [f64; L] {
+    #[tactic(auto, using(crate::proofs::ListedLaws::is_listed))]
+    fn at(values: &[f64], k: usize) -> [f64; L] {
+        let from = L * k;
+        let mut part = [0.0; L];
+        for i in 0..L {
+            part[i] = values[from + i];
+        }
+        part
+    }
+
+    fn put(self, values: &mut [f64], k: usize) {
+        let from = L * k;
+        for i in 0..L {
+            values[from + i] = self[i];
+        }
+    }
+
+    fn map<F: Fn(usize, f64) -> f64>(self, f: F) -> [f64; L] {
+        let mut new = self;
+        for k in 0..L {
+            new[k] = f(k, self[k]);
+        }
+        new
+    }
+}
 
 // Block e of a slice of blocks, by value.
-pub fn block_1(values: &[f64], e: usize) -> [f64; 1]
-    requires { 1 * e + 1 ≤ length values.now }
-    ensures { result ≡ block_at 1 values.now e }
+pub fn block_at<S: Size>(values: &[f64], e: usize) -> S::Block
+    requires { S.DIM * S.DIM * e + S.DIM * S.DIM ≤ length values.now }
+    ensures { S.Block.list result ≡ block_at S.DIM values.now e }
 {
-    let p = 1 * e;
-    [values[p + 0]]
-}
-
-pub fn block_2(values: &[f64], e: usize) -> [f64; 4]
-    requires { 4 * e + 4 ≤ length values.now }
-    ensures { result ≡ block_at 2 values.now e }
-{
-    let p = 4 * e;
-    [values[p + 0], values[p + 1], values[p + 2], values[p + 3]]
-}
-
-pub fn block_3(values: &[f64], e: usize) -> [f64; 9]
-    requires { 9 * e + 9 ≤ length values.now }
-    ensures { result ≡ block_at 3 values.now e }
-{
-    let p = 9 * e;
-    [
-        values[p + 0],
-        values[p + 1],
-        values[p + 2],
-        values[p + 3],
-        values[p + 4],
-        values[p + 5],
-        values[p + 6],
-        values[p + 7],
-        values[p + 8],
-    ]
+    S::Block::at(values, e)
 }
 
 // Row i of a vector, by value.
-pub fn vector_1(values: &[f64], i: usize) -> [f64; 1]
-    requires { 1 * i + 1 ≤ length values.now }
-    ensures { result ≡ vector_at 1 values.now i }
+pub fn vector_at<S: Size>(values: &[f64], i: usize) -> S::Row
+    requires { S.DIM * i + S.DIM ≤ length values.now }
+    ensures { S.Row.list result ≡ vector_at S.DIM values.now i }
 {
-    let p = 1 * i;
-    [values[p + 0]]
+    S::Row::at(values, i)
 }
 
-pub fn vector_2(values: &[f64], i: usize) -> [f64; 2]
-    requires { 2 * i + 2 ≤ length values.now }
-    ensures { result ≡ vector_at 2 values.now i }
+// Block e, written back.
+pub fn put_block<S: Size>(values: &mut [f64], e: usize, new: S::Block)
+    requires { S.DIM * S.DIM * e + S.DIM * S.DIM ≤ length values.old }
+    ensures { values.new ≡ put_at (S.DIM * S.DIM * e) (S.Block.list new) values.old }
 {
-    let p = 2 * i;
-    [values[p + 0], values[p + 1]]
+    new.put(values, e);
 }
 
-pub fn vector_3(values: &[f64], i: usize) -> [f64; 3]
-    requires { 3 * i + 3 ≤ length values.now }
-    ensures { result ≡ vector_at 3 values.now i }
+// Row i, written back.
+pub fn put_row<S: Size>(values: &mut [f64], i: usize, new: S::Row)
+    requires { S.DIM * i + S.DIM ≤ length values.old }
+    ensures { values.new ≡ put_at (S.DIM * i) (S.Row.list new) values.old }
 {
-    let p = 3 * i;
-    [values[p + 0], values[p + 1], values[p + 2]]
-}
-
-// The values of a block or a row, written back from place `at` on. One loop serves every N.
-pub fn put(values: &mut [f64], at: usize, new: &[f64])
-    requires { at + length new.now ≤ length values.old }
-    ensures { values.new ≡ put_at at new.now values.old }
-{
-    let mut k = 0;
-    while k < new.len() {
-        values[at + k] = new[k];
-        k += 1;
-    }
+    new.put(values, i);
 }

@@ -1,30 +1,20 @@
 // The calls that write the pattern of a factor: a line of numbers for each call at its limits, then large patterns, then document 01's cases 1 to 7.
 // The cases are those of crate fill_limits.
-use crate::print_text;
-use case_texts::{fill_call, heading, plate, small_fill};
+use case_texts::{heading, plate, small_fill};
 use fill_limits::small::Written;
-use fill_limits::{Filled, is_case_of, small, try_full, try_limit, try_plate};
+use fill_limits::{FillCall, Filled, is_case_of, small, try_full, try_limit, try_plate};
 use std::io;
 
-// A number; words that are not what document 01 has after it are shouted.
-fn print_number(rt: &impl Print, seen: Filled) -> io::Result<()> {
-    print!(rt; " {}", seen.number)?;
-    if !seen.right {
-        print!(rt; " WRONG")?;
-    }
-    Ok(())
-}
-
-fn print_case(rt: &impl Print, call: usize, case: usize) -> io::Result<()> {
+fn print_case(rt: &impl Print, call: FillCall, case: usize) -> io::Result<()> {
     if is_case_of(call, case) {
-        print_number(rt, try_limit(call, case))
+        print!(rt; "{}", try_limit(call, case))
     } else {
         print!(rt; " -")
     }
 }
 
-fn print_limits(rt: &impl Print, call: usize) -> io::Result<()> {
-    print_text(rt, fill_call(call))?;
+fn print_limits(rt: &impl Print, call: FillCall) -> io::Result<()> {
+    print!(rt; "{}", call.name())?;
     print!(rt; ":")?;
     for case in 0..20 {
         print_case(rt, call, case)?;
@@ -33,39 +23,34 @@ fn print_limits(rt: &impl Print, call: usize) -> io::Result<()> {
 }
 
 fn limits(rt: &impl Print) -> io::Result<()> {
-    print_text(rt, heading(9))?;
-    print_text(rt, heading(10))?;
-    print_text(rt, heading(11))?;
-    print_limits(rt, 0)?;
-    print_limits(rt, 1)?;
-    print_limits(rt, 2)
+    print!(rt; "{}", heading(9))?;
+    print!(rt; "{}", heading(10))?;
+    print!(rt; "{}", heading(11))?;
+    print_limits(rt, FillCall::Ilu0)?;
+    print_limits(rt, FillCall::Full)?;
+    print_limits(rt, FillCall::Iluk)
 }
 
 // The number and the entries that were written.
 fn print_filled(rt: &impl Print, seen: Filled) -> io::Result<()> {
-    let entries = seen.entries;
-    print_number(rt, seen)?;
-    print!(rt; " {entries};")
+    print!(rt; "{seen} {};", seen.entries)
 }
 
 fn print_plate(rt: &impl Print, kind: usize) -> io::Result<()> {
-    print_text(rt, plate(kind))?;
+    print!(rt; "{}", plate(kind))?;
     print!(rt; ":")?;
-    print_filled(rt, try_plate(0, kind, 0))?;
-    print_filled(rt, try_plate(2, kind, 0))?;
-    print_filled(rt, try_plate(2, kind, 1))?;
-    print_filled(rt, try_plate(2, kind, 2))?;
-    print_filled(rt, try_plate(2, kind, 3))?;
-    print_filled(rt, try_plate(2, kind, 4294967295))?;
+    print_filled(rt, try_plate(FillCall::Ilu0, kind, 0))?;
+    for k in [0, 1, 2, 3, 4294967295] {
+        print_filled(rt, try_plate(FillCall::Iluk, kind, k))?;
+    }
     println!(rt)
 }
 
 fn plates(rt: &impl Print) -> io::Result<()> {
-    print_text(rt, heading(12))?;
-    print_plate(rt, 0)?;
-    print_plate(rt, 1)?;
-    print_plate(rt, 2)?;
-    print_plate(rt, 3)?;
+    print!(rt; "{}", heading(12))?;
+    for kind in 0..4 {
+        print_plate(rt, kind)?;
+    }
     print!(rt; "initialize_full of 256 rows:")?;
     print_filled(rt, try_full(0))?;
     print!(rt; " of 257 rows:")?;
@@ -73,33 +58,22 @@ fn plates(rt: &impl Print) -> io::Result<()> {
     println!(rt)
 }
 
-fn print_index(rt: &impl Print, x: u32) -> io::Result<()> {
-    print!(rt; " {x}")
-}
-
-fn print_words(rt: &impl Print, before: &[u8], words: &[u32], count: usize) -> io::Result<()> {
-    rt.write_all(before)?;
+fn print_words(rt: &impl Print, before: &str, words: &[u32], count: usize) -> io::Result<()> {
+    print!(rt; "{before}")?;
     for x in words.iter().take(count) {
-        print_index(rt, *x)?;
+        print!(rt; " {x}")?;
     }
     Ok(())
 }
 
-fn wide(x: u32) -> usize {
-    x as usize
-}
-
 // Where the last row ends.
 fn count_of(offsets: &[u32], rows: usize) -> usize {
-    if rows >= offsets.len() {
-        return 0;
-    }
-    wide(offsets[rows])
+    offsets.get(rows).map_or(0, |end| *end as usize)
 }
 
 // One more than the rows, of which there are at most five.
 fn offset_count(rows: usize) -> usize {
-    if rows < 5 { rows + 1 } else { 6 }
+    rows.min(5) + 1
 }
 
 fn print_pattern(
@@ -109,14 +83,14 @@ fn print_pattern(
     columns: &[u32; 20],
     splits: &[u32; 5],
 ) -> io::Result<()> {
-    print_words(rt, b", offsets", offsets, offset_count(rows))?;
-    print_words(rt, b", columns", columns, count_of(offsets, rows))?;
-    print_words(rt, b", splits", splits, rows)?;
+    print_words(rt, ", offsets", offsets, offset_count(rows))?;
+    print_words(rt, ", columns", columns, count_of(offsets, rows))?;
+    print_words(rt, ", splits", splits, rows)?;
     println!(rt)
 }
 
 fn print_written(rt: &impl Print, case: usize, written: Written) -> io::Result<()> {
-    print_text(rt, small_fill(case))?;
+    print!(rt; "{}", small_fill(case))?;
     print!(rt; ": {}", written.number)?;
     let offsets = written.offsets;
     let columns = written.columns;
@@ -125,7 +99,7 @@ fn print_written(rt: &impl Print, case: usize, written: Written) -> io::Result<(
 }
 
 fn small_patterns(rt: &impl Print) -> io::Result<()> {
-    print_text(rt, heading(13))?;
+    print!(rt; "{}", heading(13))?;
     print_written(rt, 0, small::try_iluk(0, 0, 20))?;
     print_written(rt, 1, small::try_iluk(0, 1, 20))?;
     print_written(rt, 2, small::try_iluk(0, 2, 20))?;
@@ -153,15 +127,14 @@ fn print_room(rt: &impl Print, which: usize, k: u32) -> io::Result<()> {
 }
 
 fn print_rooms(rt: &impl Print, which: usize) -> io::Result<()> {
-    print_room(rt, which, 0)?;
-    print_room(rt, which, 1)?;
-    print_room(rt, which, 2)?;
-    print_room(rt, which, 3)?;
+    for k in 0..4 {
+        print_room(rt, which, k)?;
+    }
     println!(rt)
 }
 
 fn rooms(rt: &impl Print) -> io::Result<()> {
-    print_text(rt, heading(14))?;
+    print!(rt; "{}", heading(14))?;
     print!(rt; "P:")?;
     print_rooms(rt, 0)?;
     print!(rt; "case 5:")?;

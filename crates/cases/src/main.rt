@@ -8,73 +8,27 @@ pub mod matrix_cases;
 pub mod pattern_cases;
 pub mod vector_cases;
 
+use answers::Numbered;
 use block_cases::{Shown, inverse, pivot, product, root, update};
 use case_texts::heading;
-use limits::Seen;
 use std::io;
-use texts::Text;
+use texts::Values;
 
-fn print_head(rt: &impl Print, bytes: &[u8], count: usize) -> io::Result<()> {
-    if count <= bytes.len() {
-        rt.write_all(&bytes[0..count])?;
-    }
-    Ok(())
-}
-
-pub fn print_text(rt: &impl Print, text: Text) -> io::Result<()> {
-    let bytes = text.bytes;
-    print_head(rt, &bytes, text.count)
-}
-
-fn print_value(rt: &impl Print, x: f64) -> io::Result<()> {
-    print!(rt; " {:016x}", words::bits_of(x))
-}
-
-pub fn print_values(rt: &impl Print, name: &[u8], values: &[f64]) -> io::Result<()> {
-    rt.write_all(name)?;
-    for x in values {
-        print_value(rt, *x)?;
-    }
-    println!(rt)
-}
-
-// A number of a line of cases; a refused call that changed a word is shouted.
-pub fn print_seen(rt: &impl Print, seen: Seen) -> io::Result<()> {
-    let number = seen.number;
-    print!(rt; " {number}")?;
-    if number != 0 {
-        if !seen.kept {
-            print!(rt; " CHANGED")?;
-        }
-    }
-    Ok(())
-}
-
-// The first values of a case, after what stands before them.
-fn print_first(rt: &impl Print, before: &[u8], values: &[f64], count: usize) -> io::Result<()> {
-    if count <= values.len() {
-        print_values(rt, before, &values[0..count])?;
-    }
-    Ok(())
+pub fn print_values(rt: &impl Print, name: &str, values: &[f64]) -> io::Result<()> {
+    println!(rt; "{name}{}", Values(values))
 }
 
 fn print_shown(rt: &impl Print, shown: Shown) -> io::Result<()> {
-    let name = shown.name;
-    print_text(rt, name)?;
-    let values = shown.values;
-    print_first(rt, b"", &values, shown.count)
+    print_values(rt, shown.name, shown.values())
 }
 
 fn print_inverse(rt: &impl Print, shown: Shown) -> io::Result<()> {
-    let name = shown.name;
-    print_text(rt, name)?;
     let answer = shown.answer;
-    print!(rt; ": number {}", answer.number())?;
+    print!(rt; "{}: number {}", shown.name, answer.number())?;
     if answer.number() == 9 {
         print!(rt; " row {}", answer.row())?;
     }
-    let values = shown.values;
-    print_first(rt, b",", &values, shown.count)
+    print_values(rt, ",", shown.values())
 }
 
 fn pivots(rt: &impl Print) -> io::Result<()> {
@@ -93,16 +47,15 @@ fn inverses(rt: &impl Print) -> io::Result<()> {
 }
 
 fn products_and_roots(rt: &impl Print) -> io::Result<()> {
-    print_shown(rt, product(0))?;
-    print_shown(rt, product(1))?;
-    print_shown(rt, product(2))?;
-    print_shown(rt, product(3))?;
+    for case in 0..4 {
+        print_shown(rt, product(case))?;
+    }
     print_shown(rt, root(0))?;
     print_shown(rt, root(1))
 }
 
 fn main(rt: HostRuntime) -> io::Result<()> {
-    print_text(&rt, heading(0))?;
+    print!(rt; "{}", heading(0))?;
     pivots(&rt)?;
     inverses(&rt)?;
     products_and_roots(&rt)?;

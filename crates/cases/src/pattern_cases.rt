@@ -1,8 +1,7 @@
 // The pattern calls: a line has the numbers of check_pattern and check_entries, or of check_factor.
 // The cases are those of limits::pattern_cases.
-use crate::print_text;
 use case_texts::heading;
-use limits::pattern_cases::{try_columns, try_factor, try_rows, try_rule};
+use limits::pattern_cases::{Check, try_columns, try_factor, try_rows, try_rule};
 use std::io;
 
 fn print_numbers(rt: &impl Print, pattern: u32, entries: u32) -> io::Result<()> {
@@ -11,37 +10,53 @@ fn print_numbers(rt: &impl Print, pattern: u32, entries: u32) -> io::Result<()> 
 
 fn rules(rt: &impl Print) -> io::Result<()> {
     for case in 0..10 {
-        print_text(rt, case_texts::rule(case))?;
-        print_numbers(rt, try_rule(false, case), try_rule(true, case))?;
+        print!(rt; "{}", case_texts::rule(case))?;
+        print_numbers(
+            rt,
+            try_rule(Check::Pattern, case),
+            try_rule(Check::Entries, case),
+        )?;
     }
     Ok(())
 }
 
 fn rows(rt: &impl Print) -> io::Result<()> {
     for case in 0..5 {
-        print_text(rt, case_texts::rows(case))?;
-        print_numbers(rt, try_rows(false, case), try_rows(true, case))?;
+        print!(rt; "{}", case_texts::rows(case))?;
+        print_numbers(
+            rt,
+            try_rows(Check::Pattern, case),
+            try_rows(Check::Entries, case),
+        )?;
     }
     Ok(())
 }
 
 fn columns(rt: &impl Print) -> io::Result<()> {
     print!(rt; "65535 columns")?;
-    print_numbers(rt, try_columns(false, 0), try_columns(true, 0))?;
+    print_numbers(
+        rt,
+        try_columns(Check::Pattern, 0),
+        try_columns(Check::Entries, 0),
+    )?;
     print!(rt; "65536 columns")?;
-    print_numbers(rt, try_columns(false, 1), try_columns(true, 1))
+    print_numbers(
+        rt,
+        try_columns(Check::Pattern, 1),
+        try_columns(Check::Entries, 1),
+    )
 }
 
 fn factors(rt: &impl Print) -> io::Result<()> {
     for case in 0..5 {
-        print_text(rt, case_texts::factor(case))?;
+        print!(rt; "{}", case_texts::factor(case))?;
         println!(rt; ": {}", try_factor(case))?;
     }
     Ok(())
 }
 
 pub fn run(rt: &impl Print) -> io::Result<()> {
-    print_text(rt, heading(2))?;
+    print!(rt; "{}", heading(2))?;
     rules(rt)?;
     rows(rt)?;
     columns(rt)?;

@@ -8,7 +8,7 @@ use native.Mathlib.Omega.{arith}
 use lib.Dec.{eqb}
 use lib.ListN.{length}
 use borrow.Author.Tests.{eq-eqb, ne_eqb}
-use Rattle.answers.specs.declared.Answer.{Answer}
+use Rattle.answers.specs.Numbers.{Answer}
 use Rattle.answers.specs.Numbers.{number_of}
 use Rattle.answers.specs.Checks.{◌when◌, first_of}
 use Rattle.answers.specs.Promise.{Ends}
@@ -144,15 +144,14 @@ module _ (dim st en ad av o cs s d v : ℕ) where
 -- ---- the ends of the call: its lengths refuse it, or its words decide
 
 module _ {A : Type 0} (wrong : Bool) (dim : ℕ) (st en : List ℕ) (ad av : ℕ) (o cs s : List ℕ) (d v : ℕ) (answer : Answer) (new old left : A) where
-  -- k is the number of what the lengths answered, as the code has it
-  pub copy_refuses : (k : ℕ) → k ≡ number_of answer → (k ≡ 0 → ⊥)
+  pub copy_refuses : (number_of answer ≡ 0 → ⊥)
       → number_of answer
       ≡ first_of (copy_byte_checks (length st) (length en) (length o) (length cs) wrong ++ copy_lengths dim (length st / 4) (length en / 4) ad av (length o / 4) (length cs / 4) (length s / 4) d v)
       → Ends (copy_byte_checks (length st) (length en) (length o) (length cs) wrong ++ copy_checks dim (indexes_in st) (indexes_in en) ad av (indexes_in o) (indexes_in cs) (indexes_in s) d v) answer new old old
-  copy_refuses k is other first =
+  copy_refuses other first =
       ends_earlier (copy_byte_checks (length st) (length en) (length o) (length cs) wrong ++ copy_lengths dim (length (indexes_in st)) (length (indexes_in en)) ad av (length (indexes_in o)) (length (indexes_in cs)) (length (indexes_in s)) d v)
-      (copy_rules (indexes_in st) (indexes_in en) (indexes_in o) (indexes_in cs) (indexes_in s)) answer k new old
-      (rw (length_indexes st, length_indexes en, length_indexes o, length_indexes cs, length_indexes s) first) is other
+      (copy_rules (indexes_in st) (indexes_in en) (indexes_in o) (indexes_in cs) (indexes_in s)) answer new old
+      (rw (length_indexes st, length_indexes en, length_indexes o, length_indexes cs, length_indexes s) first) other
 
   pub copy_decides : first_of (copy_byte_checks (length st) (length en) (length o) (length cs) wrong ++ copy_lengths dim (length st / 4) (length en / 4) ad av (length o / 4) (length cs / 4) (length s / 4) d v) ≡ 0
       → Ends (copy_checks dim (indexes_in st) (indexes_in en) ad av (indexes_in o) (indexes_in cs) (indexes_in s) d v) answer new old left

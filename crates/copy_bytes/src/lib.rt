@@ -13,7 +13,7 @@ ghost use Rattle.wire.specs.Bytes.{values_in, bytes_of};
 ghost use Rattle.wire.specs.Words.{indexes_in};
 ghost use Rattle.copy_bytes.specs.Checks.{misshapen_copy, copy_byte_checks};
 
-use answers::{Answer, Refusal};
+use answers::{Answer, Numbered, Refusal};
 use copy_room::unchecked::{copy_in_full_room, copy_in_small_room};
 use factor_bytes::check_factor_bytes;
 use matrix_bytes::{check_matrix_bytes, is_many};
@@ -36,20 +36,14 @@ fn check_copy_bytes(
         ++ copy_lengths dim (starts / 4) (entries / 4) (a_diagonal / 8) (a_values / 8) (offsets / 4) (columns / 4) (splits / 4) (diagonal / 8) (values / 8)) }
 {
     if is_too_large(offsets / 4, columns / 4) {
-        return Answer::Refused(Refusal::Size);
+        return Err(Refusal::Size);
     }
-    let of_a = check_matrix_bytes(dim, starts, entries, a_values, a_diagonal);
-    if of_a.number() != 0 {
-        return of_a;
-    }
-    let answer = check_factor_bytes(dim, offsets, columns, splits, diagonal, values, false);
-    if answer.number() != 0 {
-        return answer;
-    }
+    check_matrix_bytes(dim, starts, entries, a_values, a_diagonal)?;
+    check_factor_bytes(dim, offsets, columns, splits, diagonal, values, false)?;
     if offsets / 4 != starts / 4 {
-        return Answer::Refused(Refusal::Shape);
+        return Err(Refusal::Shape);
     }
-    answer
+    Ok(())
 }
 
 // The factor's diagonal becomes A's, and each of its entries A's of that column, or +0.
@@ -70,7 +64,7 @@ pub fn copy_value(
         (bytes_of binary64 (values_in binary64 a_diagonal.now), bytes_of binary64 (copied_rows binary64 dim (indexes_in starts.now) (indexes_in entries.now) (values_in binary64 a_values.now) (indexes_in offsets.now) (indexes_in columns.now)))
         (diagonal.old, values.old) (diagonal.new, values.new) }
 {
-    let answer = check_copy_bytes(
+    check_copy_bytes(
         dim,
         starts.len(),
         entries.len(),
@@ -81,10 +75,7 @@ pub fn copy_value(
         splits.len(),
         diagonal.len(),
         values.len(),
-    );
-    if answer.number() != 0 {
-        return answer;
-    }
+    )?;
     if is_many(starts.len(), entries.len()) {
         return copy_in_full_room(
             diagonal, values, dim, starts, entries, a_diagonal, a_values, offsets, columns, splits,

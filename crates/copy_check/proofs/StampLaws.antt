@@ -4,13 +4,13 @@ use mathlib.Core.Path.{◌≡◌, refl, sym, ap, ◌∙◌}
 use mathlib.Core.Logic.{⊎_elim}
 use mathlib.Core.List.{List}
 use mathlib.Core.Bool.{Bool, true, false, cond}
-use Prim.Native.Nat.{ℕ, ◌+◌, ◌-◌, ◌≤◌, ◌<◌}
+use Prim.Native.Nat.{ℕ, ◌+◌, ◌≤◌, ◌<◌}
 use native.Mathlib.Nat.{le_of_suc-le-suc, eq-or-lt_of_le}
 use native.Mathlib.Omega.{arith}
-use lib.Dec.{ltb, eqb}
-use lib.ListN.{length, get_or, set, length-set, get_or-eq_default}
+use lib.Dec.{eqb}
+use lib.ListN.{length, get_or, set, length-set}
 use lib.Seq.{get_or-set_same, get_or-set_other}
-use borrow.Author.Tests.{ltb-true, ltb-false, eqb-true, eqb-false}
+use borrow.Author.Tests.{eqb-true, eqb-false}
 use Rattle.patterns.specs.Marks.{Below}
 use Rattle.copy_check.specs.Stamps.{Holds, Only, Taken, Takes, Placed}
 
@@ -29,21 +29,6 @@ written P marks c x v room here there = go (eqb v c) refl
     go : (b : Bool) → eqb v c ≡ b → P (get_or (set marks c x) v 0)
     go true is = let e = eqb-true v c is in rw (e, get_or-set_same marks c x 0 room) (here e)
     go false is = let e = eqb-false v c is in rw (get_or-set_other marks c v x 0 e) (there e)
-
--- The first k marks are 0.
-abbrev pub Cleared : List ℕ → ℕ → Type 0
-Cleared marks k = (v : ℕ) → v < k → get_or marks v 0 ≡ 0
-
-pub clear_more : (marks : List ℕ) (k : ℕ) → k < length marks → Cleared marks k → Cleared (set marks k 0) (k + 1)
-clear_more marks k room so v h =
-    written (λ x. x ≡ 0) marks k 0 v room (λ e. refl) (λ other. so v (omega (arith, ⊎_elim {C = v < k} (λ e. absurd (other e)) (λ l. l) (eq-or-lt_of_le (le_of_suc-le-suc (omega arith))))))
-
-pub clear_all : (marks : List ℕ) (k : ℕ) → length marks ≡ 4096 → 4096 ≤ k → Cleared marks k → Below 1 marks
-clear_all marks k long all so = record { long = long; low = λ v. go v (ltb v 4096) refl }
-  where
-    go : (v : ℕ) (b : Bool) → ltb v 4096 ≡ b → get_or marks v 0 < 1
-    go v true is = omega (arith, so v (omega (arith, ltb-true v 4096 is)))
-    go v false is = omega (arith, get_or-eq_default marks 0 {n = v} (omega (arith, long, ltb-false v 4096 is)))
 
 -- A row's stamps: none at first, and one more.
 pub only_none : (stamp : ℕ) (row marks : List ℕ) → Below stamp marks → Only stamp row marks

@@ -1,4 +1,4 @@
-// Document 01's `copy_value`: the values of a matrix copied into a factor, each call checked, for N = 1, 2, 3.
+// Document 01's `copy_value`: the values of a matrix copied into a factor, each call checked, at each size.
 // A is lent as starts and entries, its diagonal and its values; the factor as offsets, columns and splits, its diagonal and its values. A call that refuses changes nothing.
 #![tactic(auto)]
 
@@ -7,19 +7,15 @@ pub mod unchecked;
 ghost use Rattle.std.specs.Prelude.{List, length, Float};
 ghost use Rattle.std.specs.Float.{binary64};
 ghost use Rattle.answers.specs.Promise.{Ends};
-ghost use Rattle.lent.specs.Steps.{Dim};
 ghost use Rattle.factors.specs.Copy.{copied_rows};
 ghost use Rattle.copying.specs.Checks.{copy_checks};
 
 use answers::Answer;
-use copy_rows::unchecked::copy_value;
+use blocks::Size;
 use unchecked::check_copy;
 
-// The checks, then the work.
-fn copy_checked(
-    diagonal: &mut [f64],
-    values: &mut [f64],
-    dim: usize,
+// The factor's diagonal becomes A's, and each of its entries A's of that column, or +0.
+pub fn copy_value<S: Size>(
     starts: &[u32],
     entries: &[u32],
     a_diagonal: &[f64],
@@ -27,14 +23,14 @@ fn copy_checked(
     offsets: &[u32],
     columns: &[u32],
     splits: &[u32],
+    diagonal: &mut [f64],
+    values: &mut [f64],
 ) -> Answer
-    requires { Dim dim }
-    ensures { Ends {A = List Float × List Float} (copy_checks dim starts.now entries.now (length a_diagonal.now) (length a_values.now) offsets.now columns.now splits.now (length diagonal.old) (length values.old)) result
-        (a_diagonal.now, copied_rows binary64 dim starts.now entries.now a_values.now offsets.now columns.now)
+    ensures { Ends {A = List Float × List Float} (copy_checks S.DIM starts.now entries.now (length a_diagonal.now) (length a_values.now) offsets.now columns.now splits.now (length diagonal.old) (length values.old)) result
+        (a_diagonal.now, copied_rows binary64 S.DIM starts.now entries.now a_values.now offsets.now columns.now)
         (diagonal.old, values.old) (diagonal.new, values.new) }
 {
-    let answer = check_copy(
-        dim,
+    check_copy::<S>(
         starts,
         entries,
         a_diagonal.len(),
@@ -44,73 +40,9 @@ fn copy_checked(
         splits,
         diagonal.len(),
         values.len(),
+    )?;
+    copy_rows::unchecked::copy_value::<S>(
+        diagonal, values, starts, entries, a_diagonal, a_values, offsets, columns,
     );
-    if answer.number() != 0 {
-        return answer;
-    }
-    copy_value(
-        diagonal, values, dim, starts, entries, a_diagonal, a_values, offsets, columns,
-    );
-    answer
-}
-
-// The factor's diagonal becomes A's, and each of its entries A's of that column, or +0.
-pub fn copy_value_1(
-    starts: &[u32],
-    entries: &[u32],
-    a_diagonal: &[f64],
-    a_values: &[f64],
-    offsets: &[u32],
-    columns: &[u32],
-    splits: &[u32],
-    diagonal: &mut [f64],
-    values: &mut [f64],
-) -> Answer
-    ensures { Ends {A = List Float × List Float} (copy_checks 1 starts.now entries.now (length a_diagonal.now) (length a_values.now) offsets.now columns.now splits.now (length diagonal.old) (length values.old)) result
-        (a_diagonal.now, copied_rows binary64 1 starts.now entries.now a_values.now offsets.now columns.now)
-        (diagonal.old, values.old) (diagonal.new, values.new) }
-{
-    copy_checked(
-        diagonal, values, 1, starts, entries, a_diagonal, a_values, offsets, columns, splits,
-    )
-}
-
-pub fn copy_value_2(
-    starts: &[u32],
-    entries: &[u32],
-    a_diagonal: &[f64],
-    a_values: &[f64],
-    offsets: &[u32],
-    columns: &[u32],
-    splits: &[u32],
-    diagonal: &mut [f64],
-    values: &mut [f64],
-) -> Answer
-    ensures { Ends {A = List Float × List Float} (copy_checks 2 starts.now entries.now (length a_diagonal.now) (length a_values.now) offsets.now columns.now splits.now (length diagonal.old) (length values.old)) result
-        (a_diagonal.now, copied_rows binary64 2 starts.now entries.now a_values.now offsets.now columns.now)
-        (diagonal.old, values.old) (diagonal.new, values.new) }
-{
-    copy_checked(
-        diagonal, values, 2, starts, entries, a_diagonal, a_values, offsets, columns, splits,
-    )
-}
-
-pub fn copy_value_3(
-    starts: &[u32],
-    entries: &[u32],
-    a_diagonal: &[f64],
-    a_values: &[f64],
-    offsets: &[u32],
-    columns: &[u32],
-    splits: &[u32],
-    diagonal: &mut [f64],
-    values: &mut [f64],
-) -> Answer
-    ensures { Ends {A = List Float × List Float} (copy_checks 3 starts.now entries.now (length a_diagonal.now) (length a_values.now) offsets.now columns.now splits.now (length diagonal.old) (length values.old)) result
-        (a_diagonal.now, copied_rows binary64 3 starts.now entries.now a_values.now offsets.now columns.now)
-        (diagonal.old, values.old) (diagonal.new, values.new) }
-{
-    copy_checked(
-        diagonal, values, 3, starts, entries, a_diagonal, a_values, offsets, columns, splits,
-    )
+    Ok(())
 }

@@ -1,12 +1,12 @@
 -- The promise of `decompose_N` fixes its answer and every lent word: two answers that meet it are the same, the row of 9 included, and leave the same words.
 -- Assumes nothing.
 use mathlib.Core.Path.{◌≡◌, sym, ap, ◌∙◌}
-use mathlib.Core.List.{List, []}
+use mathlib.Core.List.{[]}
 use mathlib.Core.Bool.{cond, ◌||◌}
 use Prim.Native.Nat.{ℕ}
 use lib.Dec.{eqb}
 use lib.Ieee.{Format}
-use Rattle.answers.specs.declared.Answer.{Answer}
+use Rattle.answers.specs.Numbers.{Answer}
 use Rattle.answers.specs.Numbers.{number_of}
 use Rattle.answers.proofs.SameAnswer.{same_answer}
 use Rattle.factors.specs.Factor.{FactorPattern, FactorValues, decompose}

@@ -9,9 +9,9 @@ use native.Mathlib.Omega.{arith}
 use lib.ListN.{length}
 use lib.Ieee.{Format}
 use borrow.Author.Tests.{ne_eqb, lt-ltb, le-ltb}
+use Rattle.std.specs.Prelude.{Ok, Err}
+use Rattle.answers.specs.Numbers.{Answer}
 use Rattle.answers.specs.declared.Refusal.TheVariants.{Size, Shape, Pattern, Split, Singular}
-use Rattle.answers.specs.declared.Answer.{Answer}
-use Rattle.answers.specs.declared.Answer.TheVariants.{Done, Refused}
 use Rattle.answers.specs.Numbers.{number_of, values_of}
 use Rattle.answers.specs.Checks.{Check, ◌when◌, first_of}
 use Rattle.answers.proofs.SameAnswer.{same_number}
@@ -41,22 +41,21 @@ checked_fits n o cs ss diagonal values dim zero_is =
 -- an answer with one of these numbers carries no value
 no_values : (large wrong valid right : Bool) (answer : Answer)
     → number_of answer ≡ first_of ((1 when large) ∷ (2 when wrong) ∷ (3 when not valid) ∷ (11 when not right) ∷ []) → values_of answer ≡ []
-no_values true wrong valid right answer is = ap values_of (same_number answer (Refused Size) is (λ nine. omega (arith, is, nine)))
-no_values false true valid right answer is = ap values_of (same_number answer (Refused Shape) is (λ nine. omega (arith, is, nine)))
-no_values false false false right answer is = ap values_of (same_number answer (Refused Pattern) is (λ nine. omega (arith, is, nine)))
-no_values false false true false answer is = ap values_of (same_number answer (Refused Split) is (λ nine. omega (arith, is, nine)))
-no_values false false true true answer is = ap values_of (same_number answer Done is (λ nine. omega (arith, is, nine)))
+no_values true wrong valid right answer is = ap values_of (same_number answer (Err Size) is (λ nine. omega (arith, is, nine)))
+no_values false true valid right answer is = ap values_of (same_number answer (Err Shape) is (λ nine. omega (arith, is, nine)))
+no_values false false false right answer is = ap values_of (same_number answer (Err Pattern) is (λ nine. omega (arith, is, nine)))
+no_values false false true false answer is = ap values_of (same_number answer (Err Split) is (λ nine. omega (arith, is, nine)))
+no_values false false true true answer is = ap values_of (same_number answer (Ok tt) is (λ nine. omega (arith, is, nine)))
 
 module _ (f : Format) (n : ℕ) (t : FactorPattern) (old : FactorValues) where
   abbrev checks : List Check
   checks = earlier_checks n t.offsets t.columns t.splits (length old.diagonal) (length old.values)
 
-  -- k is the answer's number as the code has it
-  pub refused_before : (answer : Answer) (k : ℕ)
+  pub refused_before : (answer : Answer)
       → number_of answer ≡ first_of (earlier_checks n t.offsets t.columns t.splits (length old.diagonal) (length old.values))
-      → k ≡ number_of answer → (k ≡ 0 → ⊥) → Decomposes f n t old answer old
-  refused_before answer k first is other =
-      let some_holds : number_of answer ≡ 0 → ⊥ = λ z. other (is ∙ z) in
+      → (number_of answer ≡ 0 → ⊥) → Decomposes f n t old answer old
+  refused_before answer first other =
+      let some_holds : number_of answer ≡ 0 → ⊥ = other in
       let not_nine : number_of answer ≡ 9 → ⊥ = λ nine. unnamed_number checks 9 (λ z. omega (arith, z)) refl (sym first ∙ nine) in
       record {
         number = first ∙ sym (refused_earlier checks ((9 when has_stopped (decompose f n t old).stopped) ∷ []) (λ z. some_holds (first ∙ z)));
@@ -74,13 +73,13 @@ module _ (f : Format) (n : ℕ) (t : FactorPattern) (old : FactorValues) where
     last : first_of (decompose_checks f n t old) ≡ first_of ((9 when has_stopped (decompose f n t old).stopped) ∷ [])
     last = left_to_later checks ((9 when has_stopped (decompose f n t old).stopped) ∷ []) (none_of_zero checks refl zero_is)
 
-    pub stopped_at_row : row < rows_of t.offsets → Decomposes f n t old (Refused (Singular row)) left
+    pub stopped_at_row : row < rows_of t.offsets → Decomposes f n t old (Err (Singular row)) left
     unfolding stopped_at
     stopped_at_row below =
         let is : (decompose f n t old).stopped ≡ some row = sym (ap (λ (d : Decomposed). d.stopped) run) ∙ rw (lt-ltb row (rows_of t.offsets) below) in
         record { number = sym (last ∙ rw is); row = rw is; lent = ap (λ (d : Decomposed). d.left) run }
 
-    pub done_at_end : rows_of t.offsets ≤ row → Decomposes f n t old Done left
+    pub done_at_end : rows_of t.offsets ≤ row → Decomposes f n t old (Ok tt) left
     unfolding stopped_at
     done_at_end past =
         let is : (decompose f n t old).stopped ≡ none = sym (ap (λ (d : Decomposed). d.stopped) run) ∙ rw (le-ltb row (rows_of t.offsets) past) in

@@ -1,9 +1,9 @@
 -- The promise of `decompose_N`: its checks in order, and the words that it leaves after each number.
 -- Definitions only.
+use Rattle.answers.specs.Numbers.{Answer}
 use Rattle.std.specs.Prelude.{◌≡◌, List, [], ◌∷◌, ◌++◌, Bool, true, false, cond, not, ◌||◌, ℕ, eqb, length}
 use Rattle.std.proofs.Math.Option.{Option, none, some}
 use Rattle.std.specs.Float.{Format}
-use Rattle.answers.specs.declared.Answer.{Answer}
 use Rattle.answers.specs.Numbers.{number_of, values_of}
 use Rattle.answers.specs.Checks.{Check, ◌when◌, first_of}
 use Rattle.patterns.specs.Pattern.{rows_of, valid_pattern, valid_splits}

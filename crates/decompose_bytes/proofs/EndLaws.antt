@@ -8,7 +8,7 @@ use native.Mathlib.Omega.{arith}
 use lib.Dec.{eqb}
 use lib.ListN.{length}
 use lib.Ieee.{Float, Format, binary64}
-use Rattle.answers.specs.declared.Answer.{Answer}
+use Rattle.answers.specs.Numbers.{Answer}
 use Rattle.answers.specs.Numbers.{number_of, row_of}
 use Rattle.answers.specs.Checks.{◌when◌, first_of}
 use Rattle.answers.specs.Limits.{outside_of}
@@ -39,11 +39,10 @@ untorn true = refl
 untorn false = refl
 
 module _ {A : Type 0} (wrong : Bool) (dim : ℕ) (o cs s d v : List ℕ) (answer : Answer) (new old left : A) where
-  -- k is the number of what the lengths answered, as the code has it
-  pub lengths_refuse : (k : ℕ) → k ≡ number_of answer → (k ≡ 0 → ⊥)
+  pub lengths_refuse : (number_of answer ≡ 0 → ⊥)
       → number_of answer ≡ first_of (byte_checks (length o) (length cs) (wrong || false) ++ factor_lengths dim (length o / 4) (length cs / 4) (length s / 4) (length d / 8) (length v / 8))
       → Factored binary64 (byte_checks (length o) (length cs) wrong) dim (pattern_of (indexes_in o) (indexes_in cs) (indexes_in s)) (factor_of (values_in binary64 d) (values_in binary64 v)) (number_of answer) (row_of answer) new old old
-  lengths_refuse k is other first =
+  lengths_refuse other first =
       let t = pattern_of (indexes_in o) (indexes_in cs) (indexes_in s) in
       let x = factor_of (values_in binary64 d) (values_in binary64 v) in
       let earlier =
@@ -51,7 +50,7 @@ module _ {A : Type 0} (wrong : Bool) (dim : ℕ) (o cs s d v : List ℕ) (answer
       ++ factor_lengths dim (length (indexes_in o)) (length (indexes_in cs)) (length (indexes_in s)) (length (values_in binary64 d)) (length (values_in binary64 v)) in
       let first' : number_of answer ≡ first_of earlier =
       rw (length_indexes o, length_indexes cs, length_indexes s, length_values binary64 d, length_values binary64 v) (rw (untorn wrong) at first) in
-      let some : number_of answer ≡ 0 → ⊥ = λ z. other (is ∙ z) in
+      let some : number_of answer ≡ 0 → ⊥ = other in
       let not_nine : number_of answer ≡ 9 → ⊥ = λ nine. unnamed_number earlier 9 (λ e. absurd (omega (arith, e))) refl (sym first' ∙ nine) in
       factored_refused binary64 (byte_checks (length o) (length cs) wrong) dim t x (number_of answer) (row_of answer) new old
       (first' ∙ sym (refused_earlier earlier

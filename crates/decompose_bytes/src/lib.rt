@@ -15,7 +15,7 @@ ghost use Rattle.factor_bytes.specs.Checks.{misshapen_factor};
 ghost use Rattle.factor_bytes.specs.Rooms.{HeldFactor, FilledFactor};
 ghost use Rattle.decompose_bytes.specs.Left.{factor_bytes, left_over};
 
-use answers::Answer;
+use answers::{Answer, Numbered};
 use factor_bytes::check_factor_bytes;
 use factor_bytes::unchecked::decode_factor;
 use matrix_bytes::is_many;
@@ -144,7 +144,7 @@ pub fn decompose(
         (factor_bytes binary64 (decompose binary64 dim (pattern_of (indexes_in offsets.now) (indexes_in columns.now) (indexes_in splits.now)) (factor_of (values_in binary64 diagonal.old) (values_in binary64 values.old))).left)
         (diagonal.old, values.old) (diagonal.new, values.new) }
 {
-    let answer = check_factor_bytes(
+    check_factor_bytes(
         dim,
         offsets.len(),
         columns.len(),
@@ -152,10 +152,7 @@ pub fn decompose(
         diagonal.len(),
         values.len(),
         false,
-    );
-    if answer.number() != 0 {
-        return answer;
-    }
+    )?;
     if is_many(offsets.len(), columns.len()) {
         return decompose_in_full_room(diagonal, values, dim, offsets, columns, splits);
     }

@@ -18,8 +18,8 @@ ghost use Rattle.element_bytes.specs.Checks.{broken_assembly, misshapen_merge, m
 
 use answers::Answer;
 use assembly_bytes::unchecked::{Call, assemble_lent};
-use elements::unchecked::check_element_lengths;
 use entry_bytes::is_misshapen_entries;
+use numbered::unchecked::check_element_lengths;
 use pattern_bytes::{check_bytes, is_broken_value};
 
 fn is_misshapen_assembly(
@@ -56,12 +56,9 @@ fn check_assembly(
     let misshapen = is_misshapen_assembly(
         dim, rows, cols, element, offsets, columns, diagonal, values,
     );
-    let answer = check_bytes(offsets, columns, misshapen);
-    if answer.number() != 0 {
-        return answer;
-    }
+    check_bytes(offsets, columns, misshapen)?;
     check_element_lengths(
-        dim as usize,
+        dim,
         rows / 4,
         cols / 4,
         element / 8,
@@ -92,7 +89,7 @@ fn assemble(
         (bytes_of_lists binary64 (assembled binary64 dim (rule_of call) (indexes_in rows.now) (indexes_in cols.now) (values_in binary64 element.now) (indexes_in offsets.now) (indexes_in columns.now) (lists_in binary64 diagonal.old values.old)))
         (diagonal.old, values.old) (diagonal.new, values.new) }
 {
-    let answer = check_assembly(
+    check_assembly(
         dim,
         rows.len(),
         cols.len(),
@@ -101,10 +98,7 @@ fn assemble(
         columns.len(),
         diagonal.len(),
         values.len(),
-    );
-    if answer.number() != 0 {
-        return answer;
-    }
+    )?;
     assemble_lent(
         diagonal, values, dim, call, rows, cols, element, offsets, columns,
     )

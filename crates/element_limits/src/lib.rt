@@ -4,10 +4,19 @@
 
 ghost use Rattle.std.specs.Prelude.{◌≤◌, ◌+◌};
 
+use answers::Numbered;
+use blocks::{One, Three, Two};
 use limits::Seen;
-use limits::filled::{fill, is_matrix_filled};
+use limits::filled::{fill, is_filled};
 use limits::ring::{fill_columns, fill_offsets};
 use limits::sizes::values_a_block;
+
+#[derive(Clone, Copy, PartialEq, Eq)]
+pub enum ElementCall {
+    Merge,
+    Csrdia,
+    Blkcsr,
+}
 
 fn merge(
     dim: usize,
@@ -19,9 +28,9 @@ fn merge(
     values: &mut [f64],
 ) -> u32 {
     match dim {
-        1 => elements::merge_1(nodes, element, offsets, columns, diagonal, values).number(),
-        2 => elements::merge_2(nodes, element, offsets, columns, diagonal, values).number(),
-        _ => elements::merge_3(nodes, element, offsets, columns, diagonal, values).number(),
+        1 => elements::merge::<One>(nodes, element, offsets, columns, diagonal, values).number(),
+        2 => elements::merge::<Two>(nodes, element, offsets, columns, diagonal, values).number(),
+        _ => elements::merge::<Three>(nodes, element, offsets, columns, diagonal, values).number(),
     }
 }
 
@@ -35,14 +44,14 @@ fn blkcsr(
     values: &mut [f64],
 ) -> u32 {
     match dim {
-        1 => elements::blkcsr_1(rows, cols, element, offsets, columns, values).number(),
-        2 => elements::blkcsr_2(rows, cols, element, offsets, columns, values).number(),
-        _ => elements::blkcsr_3(rows, cols, element, offsets, columns, values).number(),
+        1 => elements::blkcsr::<One>(rows, cols, element, offsets, columns, values).number(),
+        2 => elements::blkcsr::<Two>(rows, cols, element, offsets, columns, values).number(),
+        _ => elements::blkcsr::<Three>(rows, cols, element, offsets, columns, values).number(),
     }
 }
 
 fn run(
-    call: usize,
+    call: ElementCall,
     dim: usize,
     rows: &[u32],
     cols: &[u32],
@@ -53,9 +62,11 @@ fn run(
     values: &mut [f64],
 ) -> u32 {
     match call {
-        0 => merge(dim, rows, element, offsets, columns, diagonal, values),
-        1 => elements::csrdia(rows, cols, element, offsets, columns, diagonal, values).number(),
-        _ => blkcsr(dim, rows, cols, element, offsets, columns, values),
+        ElementCall::Merge => merge(dim, rows, element, offsets, columns, diagonal, values),
+        ElementCall::Csrdia => elements::csrdia(
+            rows, cols, element, offsets, columns, diagonal, values,
+        ).number(),
+        ElementCall::Blkcsr => blkcsr(dim, rows, cols, element, offsets, columns, values),
     }
 }
 
@@ -63,10 +74,10 @@ fn run(
 // 13 and 14 have a row node, a column node that is n; 15 a node twice; 16 a pair without an entry; 17 that and a node that is n;
 // 18 own columns; 19 those and a wrong length; 20 both and no row; 21 to 24 have 4,096 and 4,097 rows, 65,535 and 65,536 columns, at N = 1 alone.
 // A call has not all of them: merge has one list of nodes, blkcsr no diagonal.
-pub fn is_case_of(call: usize, case: usize) -> bool {
+pub fn is_case_of(call: ElementCall, case: usize) -> bool {
     match case {
-        9 | 10 => call != 2,
-        11 | 12 | 14 => call != 0,
+        9 | 10 => call != ElementCall::Blkcsr,
+        11 | 12 | 14 => call != ElementCall::Merge,
         _ => true,
     }
 }
@@ -114,20 +125,20 @@ fn column_nodes(case: usize) -> [u32; 9] {
 }
 
 // Whether rows name themselves.
-fn is_own(call: usize, case: usize) -> bool {
+fn is_own(call: ElementCall, case: usize) -> bool {
     match case {
         18 | 19 | 20 => true,
-        _ => call == 2,
+        _ => call == ElementCall::Blkcsr,
     }
 }
 
 // How many columns each row has. In cases 16 and 17 it lacks the last, so that row 1 does not name column 0.
-fn width(call: usize, case: usize) -> u32
+fn width(call: ElementCall, case: usize) -> u32
     ensures { result ≤ 255 }
 {
     match case {
         16 | 17 => {
-            if call == 2 {
+            if call == ElementCall::Blkcsr {
                 return 7;
             }
             6
@@ -143,7 +154,7 @@ fn width(call: usize, case: usize) -> u32
     }
 }
 
-fn start(call: usize, case: usize) -> u32 {
+fn start(call: ElementCall, case: usize) -> u32 {
     if is_own(call, case) {
         return 0;
     }
@@ -170,7 +181,7 @@ fn offset_count(case: usize) -> usize
     row_count(case) as usize + 1
 }
 
-fn column_count(call: usize, case: usize) -> usize
+fn column_count(call: ElementCall, case: usize) -> usize
     ensures { result ≤ 65536 }
 {
     match case {
@@ -182,13 +193,13 @@ fn column_count(call: usize, case: usize) -> usize
     }
 }
 
-fn offsets_of(call: usize, case: usize) -> [u32; 4098] {
+fn offsets_of(call: ElementCall, case: usize) -> [u32; 4098] {
     let mut offsets = [0u32; 4098];
     fill_offsets(&mut offsets, width(call, case));
     offsets
 }
 
-fn columns_of(call: usize, case: usize) -> [u32; 65536] {
+fn columns_of(call: ElementCall, case: usize) -> [u32; 65536] {
     let mut columns = [0u32; 65536];
     fill_columns(
         &mut columns,
@@ -230,7 +241,7 @@ fn element_values(dim: usize, case: usize) -> usize
     }
 }
 
-fn entry_values(call: usize, dim: usize, case: usize) -> usize
+fn entry_values(call: ElementCall, dim: usize, case: usize) -> usize
     ensures { result ≤ 65537 }
 {
     if case > 20 {
@@ -253,7 +264,7 @@ fn diagonal_values(dim: usize, case: usize) -> usize
     length_in(case, 9, 8 * values_a_block(dim))
 }
 
-pub fn try_case(call: usize, dim: usize, case: usize) -> Seen {
+pub fn try_case(call: ElementCall, dim: usize, case: usize) -> Seen {
     let a = element_values(dim, case);
     let b = diagonal_values(dim, case);
     let c = entry_values(call, dim, case);
@@ -279,6 +290,6 @@ pub fn try_case(call: usize, dim: usize, case: usize) -> Seen {
     );
     Seen {
         number,
-        kept: is_matrix_filled(&values, &diagonal),
+        kept: is_filled(&values) && is_filled(&diagonal),
     }
 }

@@ -1,14 +1,14 @@
 -- How an assembly ends: a node outside, a pair without an entry, or all blocks added.
 -- Assumes nothing.
-use mathlib.Core.Path.{◌≡◌, refl, sym, ap, ◌∙◌}
+use mathlib.Core.Path.{◌≡◌, refl, ap, ◌∙◌}
 use mathlib.Core.List.{List, [], ◌∷◌, ◌++◌}
 use mathlib.Core.Bool.{Bool, true, false, not, cond}
-use Prim.Native.Nat.{ℕ, ◌*◌, ◌<◌}
+use Prim.Native.Nat.{ℕ, ◌*◌}
 use lib.ListN.{length}
 use lib.Ieee.{Float, Format}
+use Rattle.std.specs.Prelude.{Ok, Err}
+use Rattle.answers.specs.Numbers.{Answer}
 use Rattle.answers.specs.declared.Refusal.TheVariants.{Pattern, Node, NoEntry}
-use Rattle.answers.specs.declared.Answer.{Answer}
-use Rattle.answers.specs.declared.Answer.TheVariants.{Done, Refused}
 use Rattle.answers.specs.Numbers.{number_of}
 use Rattle.answers.specs.Checks.{Check, ◌when◌, first_of, none_holds}
 use Rattle.answers.specs.Promise.{Ends}
@@ -24,18 +24,18 @@ use Rattle.elements.proofs.FitLaws.{kept_is}
 
 -- after each refusal nothing has changed
 module _ (rule : Rule) (rows cols offsets columns : List ℕ) (new old : Lists) where
-  pub row_outside : all_below (rows_of offsets) rows ≡ false → Ends (pair_checks rule rows cols offsets columns) (Refused Node) new old old
+  pub row_outside : all_below (rows_of offsets) rows ≡ false → Ends (pair_checks rule rows cols offsets columns) (Err Node) new old old
   row_outside outside = record { number = rw outside; lent = rw outside }
 
   module _ (rows_in : all_below (rows_of offsets) rows ≡ true) where
-    pub column_outside : all_below (rows_of offsets) cols ≡ false → Ends (pair_checks rule rows cols offsets columns) (Refused Node) new old old
+    pub column_outside : all_below (rows_of offsets) cols ≡ false → Ends (pair_checks rule rows cols offsets columns) (Err Node) new old old
     column_outside outside = record { number = rw (rows_in, outside); lent = rw (rows_in, outside) }
 
     module _ (cols-in : all_below (rows_of offsets) cols ≡ true) where
-      pub entry_missing : are_stored rule rows cols offsets columns ≡ false → Ends (pair_checks rule rows cols offsets columns) (Refused NoEntry) new old old
+      pub entry_missing : are_stored rule rows cols offsets columns ≡ false → Ends (pair_checks rule rows cols offsets columns) (Err NoEntry) new old old
       entry_missing missing = record { number = rw (rows_in, cols-in, missing); lent = rw (rows_in, cols-in, missing) }
 
-      pub all_added : are_stored rule rows cols offsets columns ≡ true → (left : Lists) → left ≡ new → Ends (pair_checks rule rows cols offsets columns) Done new old left
+      pub all_added : are_stored rule rows cols offsets columns ≡ true → (left : Lists) → left ≡ new → Ends (pair_checks rule rows cols offsets columns) (Ok tt) new old left
       all_added stored left is = record { number = rw (rows_in, cols-in, stored); lent = rw (rows_in, cols-in, stored) is }
 
 -- with the entries that are kept, the blocks are added where the pattern has them
@@ -48,13 +48,13 @@ added_there {n} {rule} {rows} {cols} {element} {offsets} {columns} fit inside al
 
 -- a call whose lengths are checked first, then its pattern, then the nodes and pairs
 module _ {A : Type 0} (lengths later : List Check) (valid : Bool) (new old : A) where
-  pub lengths_refused : (answer : Answer) (k : ℕ) → number_of answer ≡ first_of lengths → k ≡ number_of answer → (k ≡ 0 → ⊥)
+  pub lengths_refused : (answer : Answer) → number_of answer ≡ first_of lengths → (number_of answer ≡ 0 → ⊥)
       → Ends (lengths ++ ((3 when not valid) ∷ later)) answer new old old
-  lengths_refused answer k first is other = ends_earlier lengths ((3 when not valid) ∷ later) answer k new old first is other
+  lengths_refused answer first other = ends_earlier lengths ((3 when not valid) ∷ later) answer new old first other
 
-  pub pattern_refused : none_holds lengths ≡ true → valid ≡ false → Ends (lengths ++ ((3 when not valid) ∷ later)) (Refused Pattern) new old old
+  pub pattern_refused : none_holds lengths ≡ true → valid ≡ false → Ends (lengths ++ ((3 when not valid) ∷ later)) (Err Pattern) new old old
   pattern_refused none wrong =
-      ends_later lengths ((3 when not valid) ∷ later) (Refused Pattern) new old old none (record { number = rw wrong; lent = rw wrong })
+      ends_later lengths ((3 when not valid) ∷ later) (Err Pattern) new old old none (record { number = rw wrong; lent = rw wrong })
 
   pub later_decide : none_holds lengths ≡ true → valid ≡ true → (answer : Answer) (left : A) → Ends later answer new old left
       → Ends (lengths ++ ((3 when not valid) ∷ later)) answer new old left

@@ -1,13 +1,13 @@
 -- The entry of a row with a column: a lookup in the row's part of the columns finds it, and it is one of the pattern's entries.
 -- Assumes nothing.
-use mathlib.Core.Path.{◌≡◌, refl, sym, ap, ◌∙◌}
+use mathlib.Core.Path.{◌≡◌, refl, sym, ap}
 use mathlib.Core.List.{List}
 use mathlib.Core.Bool.{Bool, true, false, not, cond}
 use Prim.Native.Nat.{ℕ, ◌+◌, ◌-◌, ◌≤◌, ◌<◌}
 use native.Mathlib.Omega.{arith}
 use lib.Dec.{eqb}
 use lib.ListN.{length, get_or, take, drop}
-use borrow.Author.Tests.{ne_eqb, eq-eqb, eqb-true, not-false}
+use borrow.Author.Tests.{ne_eqb, eqb-true, not-false}
 use Rattle.answers.specs.Limits.{is_place}
 use Rattle.patterns.specs.Pattern.{rows_of, row_of, valid_offsets}
 use Rattle.patterns.proofs.SizeLaws.{columns_most}

@@ -5,7 +5,6 @@ use mathlib.Core.List.{List, [], ◌∷◌}
 use Prim.Native.Nat.{ℕ}
 use lib.IntN.{pos}
 use lib.ListN.{replicate}
-use lib.Seq.{paste}
 use lib.Ieee.{Float, binary64, add, of_int, odd, round, units, span, climb, size, sum}
 use Rattle.base.specs.All.{all_to}
 use Rattle.base.specs.First.{first_in}

@@ -1,8 +1,8 @@
 -- Looking up one pair: the three ways that it ends, and what all pairs say.
 -- Assumes nothing.
-use mathlib.Core.Path.{◌≡◌, refl, sym, ap, ◌∙◌}
+use mathlib.Core.Path.{◌≡◌, sym, ap, ◌∙◌}
 use mathlib.Core.List.{List}
-use mathlib.Core.Bool.{Bool, true, false, not, ◌||◌, cond}
+use mathlib.Core.Bool.{Bool, true, false, cond}
 use Prim.Native.Nat.{ℕ, ◌+◌, ◌*◌, ◌≤◌, ◌<◌}
 use native.Mathlib.Omega.{arith}
 use lib.ListN.{length, get_or, set}
@@ -11,7 +11,7 @@ use Rattle.base.proofs.All.{all_none, all_more, all_stop}
 use Rattle.answers.specs.Limits.{is_place}
 use Rattle.patterns.specs.Pattern.{rows_of}
 use Rattle.elements.specs.declared.unchecked.Rule.{Rule}
-use Rattle.elements.specs.Pairs.{to_diagonal, place_of, entry_of, entry_at, is_stored, is_row_stored, are_stored}
+use Rattle.elements.specs.Pairs.{to_diagonal, place_of, entry_at, is_stored, is_row_stored, are_stored}
 use Rattle.elements.specs.Fits.{entry_or_none, Placed, FindFits, Finding}
 use Rattle.elements.proofs.EntryLaws.{entry_told, entry_is}
 use Rattle.elements.proofs.PlaceLaws.{placed_none, placed_row, placed_skip, placed_more}

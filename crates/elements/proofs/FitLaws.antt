@@ -1,22 +1,21 @@
 -- What an assembly that fits gives to its parts: to looking up each pair, and to adding its block.
 -- Assumes nothing.
-use mathlib.Core.Path.{◌≡◌, refl, sym, ap, ◌∙◌}
+use mathlib.Core.Path.{◌≡◌, refl}
 use mathlib.Core.List.{List}
-use mathlib.Core.Bool.{Bool, true, false, not, ◌||◌}
+use mathlib.Core.Bool.{Bool, true, false, ◌||◌}
 use Prim.Native.Nat.{ℕ, ◌+◌, ◌*◌, ◌≤◌, ◌<◌}
 use native.Mathlib.Nat.{mul-le-mul_left, mul-le-mul_right}
 use native.Mathlib.Omega.{arith}
 use lib.ListN.{length, get_or}
 use borrow.Author.Tests.{ltb-true}
-use Rattle.base.specs.All.{all_to}
 use Rattle.base.proofs.All.{all_at}
 use Rattle.base.proofs.Sizes.{part_fits, few_parts, square_pos}
 use Rattle.answers.specs.Limits.{is_place}
-use Rattle.lent.specs.Steps.{Dim, Within}
+use Rattle.lent.specs.Steps.{Within}
 use Rattle.patterns.specs.Pattern.{rows_of, all_below}
 use Rattle.elements.specs.declared.unchecked.Rule.{Rule}
 use Rattle.elements.specs.Pairs.{to_diagonal, place_of, entry_at, is_stored, is_row_stored, are_stored}
-use Rattle.elements.specs.Fits.{PatternFits, kept_at, Placed, FindFits, AddFits, AssemblyFits}
+use Rattle.elements.specs.Fits.{kept_at, Placed, FindFits, AddFits, AssemblyFits}
 use Rattle.elements.proofs.EntryLaws.{entry_below}
 
 -- a node that is a row

@@ -2,16 +2,15 @@
 -- Assumes nothing.
 use mathlib.Core.Path.{◌≡◌, refl, sym, ap, ◌∙◌}
 use mathlib.Core.List.{List}
-use mathlib.Core.Bool.{Bool, true, false, not}
+use mathlib.Core.Bool.{true, false, not}
 use Prim.Native.Nat.{ℕ, ◌+◌, ◌≤◌, ◌<◌}
 use native.Mathlib.Omega.{arith}
 use lib.ListN.{length, get_or}
 use borrow.Author.Tests.{ne_eqb}
 use Rattle.base.proofs.All.{all_at, all_stop, and_right}
 use Rattle.answers.specs.Limits.{is_place}
-use Rattle.patterns.specs.Pattern.{rows_of, row_of, own_absent, all_own_absent, valid_offsets, valid_entries, valid_pattern}
+use Rattle.patterns.specs.Pattern.{rows_of, row_of, own_absent, all_own_absent, valid_entries, valid_pattern}
 use Rattle.patterns.proofs.Use.{valid_offsets_lem, row_length, row_column}
-use Rattle.rows.specs.Lookup.{no_place, place_in}
 use Rattle.rows.proofs.LookupLaws.{Found, is_found, found_nowhere}
 use Rattle.elements.specs.declared.unchecked.Rule.TheVariants.{Place}
 use Rattle.elements.specs.Pairs.{to_diagonal, place_of, entry_of, is_stored, is_row_stored, are_stored, is_missing}

@@ -3,7 +3,7 @@
 use Rattle.std.specs.Prelude.{List, Bool, false, not, ◌||◌, ℕ, ◌+◌, eqb, length, get_or}
 use Rattle.base.specs.All.{all_to}
 use Rattle.answers.specs.Limits.{is_place}
-use Rattle.patterns.specs.Pattern.{rows_of, row_of, all_below}
+use Rattle.patterns.specs.Pattern.{row_of, all_below}
 use Rattle.rows.specs.Lookup.{place_in}
 use Rattle.elements.specs.declared.unchecked.Rule.{Rule}
 use Rattle.elements.specs.declared.unchecked.Rule.TheVariants.{Place, Number, Never}

@@ -1,4 +1,4 @@
-// Document 01's assembly: the blocks of an element are added to those of a matrix, for N = 1, 2, 3. Every call checks its input.
+// Document 01's assembly: the blocks of an element are added to those of a matrix, at each size. Every call checks its input.
 // A call that refuses answers 1, 2, 3, 6 or 7 and changes nothing: all entries are found before the first addition.
 #![tactic(auto)]
 
@@ -7,19 +7,18 @@ pub mod unchecked;
 ghost use Rattle.std.specs.Prelude.{length};
 ghost use Rattle.std.specs.Float.{binary64};
 ghost use Rattle.answers.specs.Promise.{Ends};
-ghost use Rattle.lent.specs.Steps.{Dim};
 ghost use Rattle.elements.specs.Assembly.{Lists, assembled, merged, csrdia_of, blkcsr_of};
 ghost use Rattle.elements.specs.Checks.{assembly_checks, merge_checks, csrdia_checks, blkcsr_checks};
 
 use answers::{Answer, Refusal};
+use blocks::{One, Size};
 use patterns::unchecked::{is_valid_entries, is_valid_pattern};
 use unchecked::{Rule, assemble, check_element_lengths, check_entry_lengths};
 
 // An assembly with a diagonal.
-fn assemble_checked(
+fn assemble_checked<S: Size>(
     diagonal: &mut [f64],
     values: &mut [f64],
-    dim: usize,
     rule: Rule,
     rows: &[u32],
     cols: &[u32],
@@ -27,11 +26,9 @@ fn assemble_checked(
     offsets: &[u32],
     columns: &[u32],
 ) -> Answer
-    requires { Dim dim }
-    ensures { Ends {A = Lists} (assembly_checks dim rule rows.now cols.now (length element.now) offsets.now columns.now (length diagonal.old) (length values.old)) result (assembled binary64 dim rule rows.now cols.now element.now offsets.now columns.now (diagonal.old, values.old)) (diagonal.old, values.old) (diagonal.new, values.new) }
+    ensures { Ends {A = Lists} (assembly_checks S.DIM rule rows.now cols.now (length element.now) offsets.now columns.now (length diagonal.old) (length values.old)) result (assembled binary64 S.DIM rule rows.now cols.now element.now offsets.now columns.now (diagonal.old, values.old)) (diagonal.old, values.old) (diagonal.new, values.new) }
 {
-    let answer = check_element_lengths(
-        dim,
+    check_element_lengths::<S>(
         rows.len(),
         cols.len(),
         element.len(),
@@ -39,20 +36,17 @@ fn assemble_checked(
         columns.len(),
         diagonal.len(),
         values.len(),
-    );
-    if answer.number() != 0 {
-        return answer;
-    }
+    )?;
     if !is_valid_pattern(offsets, columns) {
-        return Answer::Refused(Refusal::Pattern);
+        return Err(Refusal::Pattern);
     }
-    assemble(
-        diagonal, values, dim, rule, rows, cols, element, offsets, columns,
+    assemble::<S>(
+        diagonal, values, rule, rows, cols, element, offsets, columns,
     )
 }
 
 // The same node place goes to the diagonal, other pairs to the entry.
-pub fn merge_1(
+pub fn merge<S: Size>(
     nodes: &[u32],
     element: &[f64],
     offsets: &[u32],
@@ -60,58 +54,11 @@ pub fn merge_1(
     diagonal: &mut [f64],
     values: &mut [f64],
 ) -> Answer
-    ensures { Ends {A = Lists} (merge_checks 1 nodes.now (length element.now) offsets.now columns.now (length diagonal.old) (length values.old)) result (merged binary64 1 nodes.now element.now offsets.now columns.now (diagonal.old, values.old)) (diagonal.old, values.old) (diagonal.new, values.new) }
+    ensures { Ends {A = Lists} (merge_checks S.DIM nodes.now (length element.now) offsets.now columns.now (length diagonal.old) (length values.old)) result (merged binary64 S.DIM nodes.now element.now offsets.now columns.now (diagonal.old, values.old)) (diagonal.old, values.old) (diagonal.new, values.new) }
 {
-    assemble_checked(
+    assemble_checked::<S>(
         diagonal,
         values,
-        1,
-        Rule::Place,
-        nodes,
-        nodes,
-        element,
-        offsets,
-        columns,
-    )
-}
-
-pub fn merge_2(
-    nodes: &[u32],
-    element: &[f64],
-    offsets: &[u32],
-    columns: &[u32],
-    diagonal: &mut [f64],
-    values: &mut [f64],
-) -> Answer
-    ensures { Ends {A = Lists} (merge_checks 2 nodes.now (length element.now) offsets.now columns.now (length diagonal.old) (length values.old)) result (merged binary64 2 nodes.now element.now offsets.now columns.now (diagonal.old, values.old)) (diagonal.old, values.old) (diagonal.new, values.new) }
-{
-    assemble_checked(
-        diagonal,
-        values,
-        2,
-        Rule::Place,
-        nodes,
-        nodes,
-        element,
-        offsets,
-        columns,
-    )
-}
-
-pub fn merge_3(
-    nodes: &[u32],
-    element: &[f64],
-    offsets: &[u32],
-    columns: &[u32],
-    diagonal: &mut [f64],
-    values: &mut [f64],
-) -> Answer
-    ensures { Ends {A = Lists} (merge_checks 3 nodes.now (length element.now) offsets.now columns.now (length diagonal.old) (length values.old)) result (merged binary64 3 nodes.now element.now offsets.now columns.now (diagonal.old, values.old)) (diagonal.old, values.old) (diagonal.new, values.new) }
-{
-    assemble_checked(
-        diagonal,
-        values,
-        3,
         Rule::Place,
         nodes,
         nodes,
@@ -133,10 +80,9 @@ pub fn csrdia(
 ) -> Answer
     ensures { Ends {A = Lists} (csrdia_checks rows.now cols.now (length element.now) offsets.now columns.now (length diagonal.old) (length values.old)) result (csrdia_of binary64 rows.now cols.now element.now offsets.now columns.now (diagonal.old, values.old)) (diagonal.old, values.old) (diagonal.new, values.new) }
 {
-    assemble_checked(
+    assemble_checked::<One>(
         diagonal,
         values,
-        1,
         Rule::Number,
         rows,
         cols,
@@ -146,39 +92,32 @@ pub fn csrdia(
     )
 }
 
-// An assembly without a diagonal: an empty one is lent, since no pair goes there.
-fn blkcsr_checked(
-    values: &mut [f64],
-    dim: usize,
+// Every pair goes to an entry, own column included. An empty diagonal is lent, since no pair goes there.
+pub fn blkcsr<S: Size>(
     rows: &[u32],
     cols: &[u32],
     element: &[f64],
     offsets: &[u32],
     columns: &[u32],
+    values: &mut [f64],
 ) -> Answer
-    requires { Dim dim }
-    ensures { Ends (blkcsr_checks dim rows.now cols.now (length element.now) offsets.now columns.now (length values.old)) result (blkcsr_of binary64 dim rows.now cols.now element.now offsets.now columns.now values.old) values.old values.new }
+    ensures { Ends (blkcsr_checks S.DIM rows.now cols.now (length element.now) offsets.now columns.now (length values.old)) result (blkcsr_of binary64 S.DIM rows.now cols.now element.now offsets.now columns.now values.old) values.old values.new }
 {
-    let answer = check_entry_lengths(
-        dim,
+    check_entry_lengths::<S>(
         rows.len(),
         cols.len(),
         element.len(),
         offsets.len(),
         columns.len(),
         values.len(),
-    );
-    if answer.number() != 0 {
-        return answer;
-    }
+    )?;
     if !is_valid_entries(offsets, columns) {
-        return Answer::Refused(Refusal::Pattern);
+        return Err(Refusal::Pattern);
     }
     let mut none = [0.0f64; 1];
-    assemble(
+    assemble::<S>(
         &mut none[0..0],
         values,
-        dim,
         Rule::Never,
         rows,
         cols,
@@ -186,44 +125,4 @@ fn blkcsr_checked(
         offsets,
         columns,
     )
-}
-
-// Every pair goes to an entry, own column included.
-pub fn blkcsr_1(
-    rows: &[u32],
-    cols: &[u32],
-    element: &[f64],
-    offsets: &[u32],
-    columns: &[u32],
-    values: &mut [f64],
-) -> Answer
-    ensures { Ends (blkcsr_checks 1 rows.now cols.now (length element.now) offsets.now columns.now (length values.old)) result (blkcsr_of binary64 1 rows.now cols.now element.now offsets.now columns.now values.old) values.old values.new }
-{
-    blkcsr_checked(values, 1, rows, cols, element, offsets, columns)
-}
-
-pub fn blkcsr_2(
-    rows: &[u32],
-    cols: &[u32],
-    element: &[f64],
-    offsets: &[u32],
-    columns: &[u32],
-    values: &mut [f64],
-) -> Answer
-    ensures { Ends (blkcsr_checks 2 rows.now cols.now (length element.now) offsets.now columns.now (length values.old)) result (blkcsr_of binary64 2 rows.now cols.now element.now offsets.now columns.now values.old) values.old values.new }
-{
-    blkcsr_checked(values, 2, rows, cols, element, offsets, columns)
-}
-
-pub fn blkcsr_3(
-    rows: &[u32],
-    cols: &[u32],
-    element: &[f64],
-    offsets: &[u32],
-    columns: &[u32],
-    values: &mut [f64],
-) -> Answer
-    ensures { Ends (blkcsr_checks 3 rows.now cols.now (length element.now) offsets.now columns.now (length values.old)) result (blkcsr_of binary64 3 rows.now cols.now element.now offsets.now columns.now values.old) values.old values.new }
-{
-    blkcsr_checked(values, 3, rows, cols, element, offsets, columns)
 }

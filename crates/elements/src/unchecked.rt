@@ -1,11 +1,11 @@
-// The assembly without checks of lengths and pattern, with N as the number `dim`: all places are found first, and only then blocks are added.
+// The assembly without checks of lengths and pattern, at each size: all places are found first, and only then blocks are added.
 // These functions ask that the pattern is valid and that the lengths fit it, so that no user calls them.
 ghost use Rattle.std.specs.Prelude.{◌≡◌, ◌+◌, ◌*◌, ◌≤◌, ◌<◌, length};
 ghost use Rattle.std.specs.Float.{binary64};
 ghost use Rattle.answers.specs.Checks.{first_of};
 ghost use Rattle.answers.specs.Numbers.{number_of};
 ghost use Rattle.answers.specs.Promise.{Ends};
-ghost use Rattle.lent.specs.Steps.{Dim, Within};
+ghost use Rattle.lent.specs.Steps.{Within};
 ghost use Rattle.patterns.specs.Pattern.{rows_of, all_below};
 ghost use Rattle.elements.specs.Pairs.{to_diagonal, is_stored, is_row_stored, are_stored};
 ghost use Rattle.elements.specs.Assembly.{Lists, add_block, add_pair, add_row, add_all, assembled};
@@ -13,8 +13,8 @@ ghost use Rattle.elements.specs.Checks.{wrong_element, entry_lengths, element_le
 ghost use Rattle.elements.specs.Fits.{PatternFits, entry_or_none, kept_at, Placed, Finding, FindFits, AddFits, AssemblyFits};
 
 use answers::{Answer, Index, Nodes, Refusal};
-use blocks::unchecked::{block_1, block_2, block_3, put};
-use blocks::{add_1, add_block_2, add_block_3};
+use blocks::unchecked::{block_at, put_block};
+use blocks::{Size, Values, block_size};
 use patterns::is_too_large;
 use rows::unchecked::place_in;
 
@@ -38,15 +38,14 @@ fn goes_to_diagonal(rule: Rule, rows: &[u32], cols: &[u32], a: usize, b: usize) 
 }
 
 // Whether every node is below n.
+#[tactic(auto, using(base::proofs::All::all_none, base::proofs::All::all_more, base::proofs::All::all_stop), unfolding(patterns::specs::Pattern::all_below))]
 fn are_below(nodes: &[u32], n: u32) -> bool
     ensures { result ≡ all_below n nodes.now }
 {
-    let mut a = 0;
-    while a < nodes.len() {
-        if nodes[a] >= n {
+    for node in nodes {
+        if *node >= n {
             return false;
         }
-        a += 1;
     }
     true
 }
@@ -103,12 +102,10 @@ fn find_row(
     requires { (FindFits rows.now cols.now offsets.now columns.now) × (a < length rows.now) × (Placed rule rows.now cols.now offsets.now columns.now (8 * a) places.old) }
     ensures { Finding rule rows.now cols.now offsets.now columns.now (is_row_stored rule rows.now cols.now offsets.now columns.now a) (8 * (a + 1)) result places.new }
 {
-    let mut b = 0;
-    while b < cols.len() {
+    for b in 0..cols.len() {
         if !find_pair(places, a, b, rule, rows, cols, offsets, columns) {
             return false;
         }
-        b += 1;
     }
     true
 }
@@ -125,127 +122,88 @@ fn find_places(
     requires { (FindFits rows.now cols.now offsets.now columns.now) × (length places.old ≡ 64) }
     ensures { Finding rule rows.now cols.now offsets.now columns.now (are_stored rule rows.now cols.now offsets.now columns.now) (8 * length rows.now) result places.new }
 {
-    let mut a = 0;
-    while a < rows.len() {
+    for a in 0..rows.len() {
         if !find_row(places, a, rule, rows, cols, offsets, columns) {
             return false;
         }
-        a += 1;
     }
     true
 }
 
 // Block e of the target: block k of the element is added to it.
-fn add_at_1(target: &mut [f64], e: usize, element: &[f64], k: usize)
-    requires { (1 * e + 1 ≤ length target.old) × (1 * k + 1 ≤ length element.now) }
-    ensures { target.new ≡ add_block binary64 1 element.now k e target.old }
+#[tactic(auto, unfolding(crate::specs::Assembly::add_block))]
+fn add_at<S: Size>(target: &mut [f64], e: usize, element: &[f64], k: usize)
+    requires { (Within (S.DIM * S.DIM) e (length target.old)) × (Within (S.DIM * S.DIM) k (length element.now)) }
+    ensures { target.new ≡ add_block binary64 S.DIM element.now k e target.old }
 {
-    let sum = add_1(block_1(target, e), block_1(element, k));
-    put(target, 1 * e, &sum);
-}
-
-fn add_at_2(target: &mut [f64], e: usize, element: &[f64], k: usize)
-    requires { (4 * e + 4 ≤ length target.old) × (4 * k + 4 ≤ length element.now) }
-    ensures { target.new ≡ add_block binary64 2 element.now k e target.old }
-{
-    let sum = add_block_2(block_2(target, e), block_2(element, k));
-    put(target, 4 * e, &sum);
-}
-
-fn add_at_3(target: &mut [f64], e: usize, element: &[f64], k: usize)
-    requires { (9 * e + 9 ≤ length target.old) × (9 * k + 9 ≤ length element.now) }
-    ensures { target.new ≡ add_block binary64 3 element.now k e target.old }
-{
-    let sum = add_block_3(block_3(target, e), block_3(element, k));
-    put(target, 9 * e, &sum);
-}
-
-// The same with N as a number.
-fn add_at(target: &mut [f64], e: usize, dim: usize, element: &[f64], k: usize)
-    requires { (Dim dim) × (Within (dim * dim) e (length target.old)) × (Within (dim * dim) k (length element.now)) }
-    ensures { target.new ≡ add_block binary64 dim element.now k e target.old }
-{
-    match dim {
-        1 => add_at_1(target, e, element, k),
-        2 => add_at_2(target, e, element, k),
-        _ => add_at_3(target, e, element, k),
-    }
+    let sum = block_at::<S>(target, e).add(block_at::<S>(element, k));
+    put_block::<S>(target, e, sum);
 }
 
 // The block of one pair goes to the diagonal or to the entry that was kept for it.
-fn add_pair(
+fn add_pair<S: Size>(
     diagonal: &mut [f64],
     values: &mut [f64],
     a: usize,
     b: usize,
-    dim: usize,
     rule: Rule,
     rows: &[u32],
     cols: &[u32],
     element: &[f64],
     places: &[u32; 64],
 )
-    requires { (AddFits dim rule rows.now cols.now (kept_at places.now) (length element.now) (length diagonal.old) (length values.old)) × (a < length rows.now) × (b < length cols.now) }
-    ensures { ◌≡◌ {A = Lists} (diagonal.new, values.new) (add_pair binary64 dim rule rows.now cols.now element.now (kept_at places.now) a b (diagonal.old, values.old)) }
+    requires { (AddFits S.DIM rule rows.now cols.now (kept_at places.now) (length element.now) (length diagonal.old) (length values.old)) × (a < length rows.now) × (b < length cols.now) }
+    ensures { ◌≡◌ {A = Lists} (diagonal.new, values.new) (add_pair binary64 S.DIM rule rows.now cols.now element.now (kept_at places.now) a b (diagonal.old, values.old)) }
 {
     let k = rows.len() * a + b;
     if goes_to_diagonal(rule, rows, cols, a, b) {
-        add_at(diagonal, rows[a] as usize, dim, element, k);
+        add_at::<S>(diagonal, rows[a] as usize, element, k);
     } else {
-        add_at(values, places[8 * a + b] as usize, dim, element, k);
+        add_at::<S>(values, places[8 * a + b] as usize, element, k);
     }
 }
 
 // The pairs of a row node.
-fn add_row(
+fn add_row<S: Size>(
     diagonal: &mut [f64],
     values: &mut [f64],
     a: usize,
-    dim: usize,
     rule: Rule,
     rows: &[u32],
     cols: &[u32],
     element: &[f64],
     places: &[u32; 64],
 )
-    requires { (AddFits dim rule rows.now cols.now (kept_at places.now) (length element.now) (length diagonal.old) (length values.old)) × (a < length rows.now) }
-    ensures { ◌≡◌ {A = Lists} (diagonal.new, values.new) (add_row binary64 dim rule rows.now cols.now element.now (kept_at places.now) a (diagonal.old, values.old)) }
+    requires { (AddFits S.DIM rule rows.now cols.now (kept_at places.now) (length element.now) (length diagonal.old) (length values.old)) × (a < length rows.now) }
+    ensures { ◌≡◌ {A = Lists} (diagonal.new, values.new) (add_row binary64 S.DIM rule rows.now cols.now element.now (kept_at places.now) a (diagonal.old, values.old)) }
 {
-    let mut b = 0;
-    while b < cols.len() {
-        add_pair(
-            diagonal, values, a, b, dim, rule, rows, cols, element, places,
-        );
-        b += 1;
+    for b in 0..cols.len() {
+        add_pair::<S>(diagonal, values, a, b, rule, rows, cols, element, places);
     }
 }
 
 // All pairs.
-fn add_all(
+fn add_all<S: Size>(
     diagonal: &mut [f64],
     values: &mut [f64],
-    dim: usize,
     rule: Rule,
     rows: &[u32],
     cols: &[u32],
     element: &[f64],
     places: &[u32; 64],
 )
-    requires { AddFits dim rule rows.now cols.now (kept_at places.now) (length element.now) (length diagonal.old) (length values.old) }
-    ensures { ◌≡◌ {A = Lists} (diagonal.new, values.new) (add_all binary64 dim rule rows.now cols.now element.now (kept_at places.now) (diagonal.old, values.old)) }
+    requires { AddFits S.DIM rule rows.now cols.now (kept_at places.now) (length element.now) (length diagonal.old) (length values.old) }
+    ensures { ◌≡◌ {A = Lists} (diagonal.new, values.new) (add_all binary64 S.DIM rule rows.now cols.now element.now (kept_at places.now) (diagonal.old, values.old)) }
 {
-    let mut a = 0;
-    while a < rows.len() {
-        add_row(diagonal, values, a, dim, rule, rows, cols, element, places);
-        a += 1;
+    for a in 0..rows.len() {
+        add_row::<S>(diagonal, values, a, rule, rows, cols, element, places);
     }
 }
 
 // An assembly into a matrix whose pattern and lengths were checked: 6, then 7, then every addition.
-pub fn assemble(
+pub fn assemble<S: Size>(
     diagonal: &mut [f64],
     values: &mut [f64],
-    dim: usize,
     rule: Rule,
     rows: &[u32],
     cols: &[u32],
@@ -253,28 +211,27 @@ pub fn assemble(
     offsets: &[u32],
     columns: &[u32],
 ) -> Answer
-    requires { AssemblyFits dim rule rows.now cols.now (length element.now) offsets.now columns.now (length diagonal.old) (length values.old) }
-    ensures { Ends {A = Lists} (pair_checks rule rows.now cols.now offsets.now columns.now) result (assembled binary64 dim rule rows.now cols.now element.now offsets.now columns.now (diagonal.old, values.old)) (diagonal.old, values.old) (diagonal.new, values.new) }
+    requires { AssemblyFits S.DIM rule rows.now cols.now (length element.now) offsets.now columns.now (length diagonal.old) (length values.old) }
+    ensures { Ends {A = Lists} (pair_checks rule rows.now cols.now offsets.now columns.now) result (assembled binary64 S.DIM rule rows.now cols.now element.now offsets.now columns.now (diagonal.old, values.old)) (diagonal.old, values.old) (diagonal.new, values.new) }
 {
     let n = (offsets.len() - 1) as u32;
     if !are_below(rows, n) {
-        return Answer::Refused(Refusal::Node);
+        return Err(Refusal::Node);
     }
     if !are_below(cols, n) {
-        return Answer::Refused(Refusal::Node);
+        return Err(Refusal::Node);
     }
     let mut places = [0u32; 64];
     if !find_places(&mut places, rule, rows, cols, offsets, columns) {
-        return Answer::Refused(Refusal::NoEntry);
+        return Err(Refusal::NoEntry);
     }
-    add_all(diagonal, values, dim, rule, rows, cols, element, &places);
-    Answer::Done
+    add_all::<S>(diagonal, values, rule, rows, cols, element, &places);
+    Ok(())
 }
 
 // Whether the lengths of an element are wrong: those of its two lists of nodes, and of its values.
-fn is_wrong_element(dim: usize, rows: usize, cols: usize, element: usize) -> bool
-    requires { Dim dim }
-    ensures { result ≡ wrong_element dim rows cols element }
+fn is_wrong_element<S: Size>(rows: usize, cols: usize, element: usize) -> bool
+    ensures { result ≡ wrong_element S.DIM rows cols element }
 {
     if Nodes(rows).out_of_range() {
         return true;
@@ -282,12 +239,11 @@ fn is_wrong_element(dim: usize, rows: usize, cols: usize, element: usize) -> boo
     if cols != rows {
         return true;
     }
-    element != rows * rows * (dim * dim)
+    element != rows * rows * block_size::<S>()
 }
 
 // The checks of an element and a matrix by their lengths, without a diagonal: 1, then 2.
-pub fn check_entry_lengths(
-    dim: usize,
+pub fn check_entry_lengths<S: Size>(
     rows: usize,
     cols: usize,
     element: usize,
@@ -295,24 +251,22 @@ pub fn check_entry_lengths(
     columns: usize,
     values: usize,
 ) -> Answer
-    requires { Dim dim }
-    ensures { number_of result ≡ first_of (entry_lengths dim rows cols element offsets columns values) }
+    ensures { number_of result ≡ first_of (entry_lengths S.DIM rows cols element offsets columns values) }
 {
     if is_too_large(offsets, columns) {
-        return Answer::Refused(Refusal::Size);
+        return Err(Refusal::Size);
     }
-    if is_wrong_element(dim, rows, cols, element) {
-        return Answer::Refused(Refusal::Shape);
+    if is_wrong_element::<S>(rows, cols, element) {
+        return Err(Refusal::Shape);
     }
-    if values != dim * dim * columns {
-        return Answer::Refused(Refusal::Shape);
+    if values != block_size::<S>() * columns {
+        return Err(Refusal::Shape);
     }
-    Answer::Done
+    Ok(())
 }
 
 // The same with a diagonal.
-pub fn check_element_lengths(
-    dim: usize,
+pub fn check_element_lengths<S: Size>(
     rows: usize,
     cols: usize,
     element: usize,
@@ -321,15 +275,11 @@ pub fn check_element_lengths(
     diagonal: usize,
     values: usize,
 ) -> Answer
-    requires { Dim dim }
-    ensures { number_of result ≡ first_of (element_lengths dim rows cols element offsets columns diagonal values) }
+    ensures { number_of result ≡ first_of (element_lengths S.DIM rows cols element offsets columns diagonal values) }
 {
-    let answer = check_entry_lengths(dim, rows, cols, element, offsets, columns, values);
-    if answer.number() != 0 {
-        return answer;
+    check_entry_lengths::<S>(rows, cols, element, offsets, columns, values)?;
+    if diagonal != block_size::<S>() * (offsets - 1) {
+        return Err(Refusal::Shape);
     }
-    if diagonal != dim * dim * (offsets - 1) {
-        return Answer::Refused(Refusal::Shape);
-    }
-    answer
+    Ok(())
 }

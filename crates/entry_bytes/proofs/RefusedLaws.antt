@@ -6,7 +6,7 @@ use mathlib.Core.Bool.{Bool, true, false, not, ◌||◌}
 use Prim.Native.Nat.{ℕ, ◌/◌}
 use native.Mathlib.Omega.{arith}
 use lib.ListN.{length}
-use Rattle.answers.specs.declared.Answer.{Answer}
+use Rattle.answers.specs.Numbers.{Answer}
 use Rattle.answers.specs.Numbers.{number_of}
 use Rattle.answers.specs.Checks.{Check, ◌when◌, first_of, none_holds}
 use Rattle.answers.specs.Limits.{outside_of}
@@ -22,15 +22,15 @@ use Rattle.entry_bytes.specs.Rooms.{blkcsr_lengths}
 
 -- r, c, o and cs are the words of the bytes, which are counted
 module _ {A : Type 0} (dim rows cols element offsets columns values : ℕ) (r c o cs : List ℕ) (er : length r ≡ rows / 4) (ec : length c ≡ cols / 4)
-    (eo : length o ≡ offsets / 4) (ecs : length cs ≡ columns / 4) (answer : Answer) (k : ℕ) (is : k ≡ number_of answer) (new old : A) where
-  pub blkcsr_refused : number_of answer ≡ first_of (blkcsr_lengths dim rows cols element offsets columns values) → (k ≡ 0 → ⊥)
+    (eo : length o ≡ offsets / 4) (ecs : length cs ≡ columns / 4) (answer : Answer) (new old : A) where
+  pub blkcsr_refused : number_of answer ≡ first_of (blkcsr_lengths dim rows cols element offsets columns values) → (number_of answer ≡ 0 → ⊥)
       → Ends (byte_checks offsets columns (outside_of 1 3 dim || broken_entries rows cols element offsets columns values)
       ++ blkcsr_checks dim r c (element / 8) o cs (values / 8)) answer new old old
   blkcsr_refused first other =
       let misshapen = outside_of 1 3 dim || broken_entries rows cols element offsets columns values in
       let earlier = byte_checks offsets columns misshapen ++ entry_lengths dim (length r) (length c) (element / 8) (length o) (length cs) (values / 8) in
       let same : number_of answer ≡ first_of earlier = rw (er, ec, eo, ecs) first in
-      ends_earlier earlier ((3 when not (valid_entries o cs)) ∷ pair_checks Never r c o cs) answer k new old same is other
+      ends_earlier earlier ((3 when not (valid_entries o cs)) ∷ pair_checks Never r c o cs) answer new old same other
 
 -- past the checks by lengths none of the bytes' own holds
 none_of_bytes : (large wrong : Bool) (later : List Check) → first_of ((1 when large) ∷ (2 when wrong) ∷ later) ≡ 0 → none_holds ((1 when large) ∷ (2 when wrong) ∷ []) ≡ true

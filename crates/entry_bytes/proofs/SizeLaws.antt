@@ -8,8 +8,8 @@ use native.Mathlib.Nat.{mul-le-mul_right}
 use native.Mathlib.Omega.{arith}
 use lib.Dec.{leb}
 use borrow.Author.Tests.{leb-true}
+use Rattle.answers.specs.Numbers.{Answer}
 use Rattle.base.proofs.All.{and_left, and_right, or_left, or_right}
-use Rattle.answers.specs.declared.Answer.{Answer}
 use Rattle.answers.specs.Numbers.{number_of}
 use Rattle.answers.specs.Checks.{Check, ◌when◌, first_of}
 use Rattle.answers.specs.Limits.{outside_of}
@@ -26,11 +26,11 @@ use Rattle.entry_bytes.specs.Checks.{broken_element, broken_entries}
 use Rattle.entry_bytes.specs.Rooms.{blkcsr_lengths, ElementFits, EntriesFit, EntriesSized}
 
 -- past the checks of the bytes N is in range
-pub dim_passed : (offsets columns dim : ℕ) (rest : Bool) (answer : Answer) (k : ℕ) → number_of answer ≡ first_of (byte_checks offsets columns (outside_of 1 3 dim || rest))
-    → k ≡ number_of answer → k ≡ 0 → Dim dim
-dim_passed offsets columns dim rest answer k first is zero_is =
+pub dim_passed : (offsets columns dim : ℕ) (rest : Bool) (answer : Answer) → number_of answer ≡ first_of (byte_checks offsets columns (outside_of 1 3 dim || rest))
+    → number_of answer ≡ 0 → Dim dim
+dim_passed offsets columns dim rest answer first zero_is =
     let misshapen = outside_of 1 3 dim || rest in
-    dim_of dim (or_left (outside_of 1 3 dim) rest (well_formed offsets columns misshapen (passed offsets columns misshapen answer k first is zero_is)))
+    dim_of dim (or_left (outside_of 1 3 dim) rest (well_formed offsets columns misshapen (passed offsets columns misshapen answer first zero_is)))
 
 -- 1, then 2, then others: what holds if the number is 0
 pub lengths_left : (large wrong : Bool) (later : List Check) → first_of ((1 when large) ∷ (2 when wrong) ∷ later) ≡ 0 → (wrong ≡ false) × (first_of later ≡ 0)

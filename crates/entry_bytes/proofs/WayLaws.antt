@@ -6,7 +6,7 @@ use mathlib.Core.Bool.{true, false}
 use Prim.Native.Nat.{ℕ, ◌/◌}
 use lib.ListN.{length}
 use lib.Ieee.{Float, Format, binary64}
-use Rattle.answers.specs.declared.Answer.{Answer}
+use Rattle.answers.specs.Numbers.{Answer}
 use Rattle.answers.specs.Numbers.{number_of}
 use Rattle.answers.specs.Checks.{Check, none_holds}
 use Rattle.answers.specs.Limits.{outside_of}
@@ -56,13 +56,13 @@ pub nodes_counted : {A : Type 0} (dim : ℕ) (rows cols element offsets columns 
     → Ends (blkcsr_checks dim rows cols (length element / 8) offsets columns values) answer new old left
 nodes_counted dim rows cols element offsets columns values answer new old left end = rw (length_values binary64 element) at end
 
--- A call on words, seen as one on bytes: done, what it left is written; refused, nothing is. k is the answer's number as the code has it.
-module _ {A B : Type 0} (g : A → B) (checks : List Check) (answer : Answer) (k : ℕ) (new old left : A) (end : Ends checks answer new old left) (is : k ≡ number_of answer) where
-  pub written : (oldBytes leftBytes : B) → names 0 checks ≡ false → k ≡ 0 → leftBytes ≡ g left → Ends checks answer (g new) oldBytes leftBytes
+-- A call on words, seen as one on bytes: done, what it left is written; refused, nothing is.
+module _ {A B : Type 0} (g : A → B) (checks : List Check) (answer : Answer) (new old left : A) (end : Ends checks answer new old left) where
+  pub written : (oldBytes leftBytes : B) → names 0 checks ≡ false → number_of answer ≡ 0 → leftBytes ≡ g left → Ends checks answer (g new) oldBytes leftBytes
   written oldBytes leftBytes unnamed zero_is right =
-      let none : none_holds checks ≡ true = none_of_zero checks unnamed (sym end.number ∙ sym is ∙ zero_is) in
+      let none : none_holds checks ≡ true = none_of_zero checks unnamed (sym end.number ∙ zero_is) in
       let done : left ≡ new = rw none at end.lent in
       record { number = end.number; lent = rw none (right ∙ ap g done) }
 
-  pub unwritten : (oldBytes : B) → (k ≡ 0 → ⊥) → Ends checks answer (g new) oldBytes oldBytes
-  unwritten oldBytes other = refused checks answer k end.number is (g new) oldBytes other
+  pub unwritten : (oldBytes : B) → (number_of answer ≡ 0 → ⊥) → Ends checks answer (g new) oldBytes oldBytes
+  unwritten oldBytes other = refused checks answer end.number (g new) oldBytes other

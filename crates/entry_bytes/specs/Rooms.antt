@@ -1,8 +1,8 @@
 -- What the functions between the checks and the calls ask of the bytes and of the room for their words. No public promise cites these.
 -- Definitions only.
+use Rattle.answers.specs.Numbers.{Answer}
 use Rattle.std.specs.Prelude.{List, ◌++◌, ◌||◌, ℕ, ◌*◌, ◌/◌, ◌≤◌, length, Float}
 use Rattle.std.specs.Float.{Format}
-use Rattle.answers.specs.declared.Answer.{Answer}
 use Rattle.answers.specs.Checks.{Check}
 use Rattle.answers.specs.Limits.{outside_of}
 use Rattle.answers.specs.Promise.{Ends}

@@ -19,8 +19,8 @@ ghost use Rattle.entry_bytes.specs.Checks.{broken_entries, misshapen_blkcsr};
 ghost use Rattle.entry_bytes.specs.Rooms.{blkcsr_lengths};
 
 use answers::Answer;
-use elements::unchecked::check_entry_lengths;
 use numbered::is_no_dim;
+use numbered::unchecked::check_entry_lengths;
 use pattern_bytes::{check_bytes, is_broken_index, is_broken_pattern, is_broken_value};
 
 // Whether some bytes make no whole words.
@@ -80,12 +80,9 @@ fn check_blkcsr(
     ensures { number_of result ≡ first_of (blkcsr_lengths dim rows cols element offsets columns values) }
 {
     let misshapen = is_misshapen_entries(dim, rows, cols, element, offsets, columns, values);
-    let answer = check_bytes(offsets, columns, misshapen);
-    if answer.number() != 0 {
-        return answer;
-    }
+    check_bytes(offsets, columns, misshapen)?;
     check_entry_lengths(
-        dim as usize,
+        dim,
         rows / 4,
         cols / 4,
         element / 8,
@@ -112,7 +109,7 @@ pub fn blkcsr(
         (bytes_of binary64 (blkcsr_of binary64 dim (indexes_in rows.now) (indexes_in cols.now) (values_in binary64 element.now) (indexes_in offsets.now) (indexes_in columns.now) (values_in binary64 values.old)))
         values.old values.new }
 {
-    let answer = check_blkcsr(
+    check_blkcsr(
         dim,
         rows.len(),
         cols.len(),
@@ -120,9 +117,6 @@ pub fn blkcsr(
         offsets.len(),
         columns.len(),
         values.len(),
-    );
-    if answer.number() != 0 {
-        return answer;
-    }
+    )?;
     unchecked::blkcsr_lent(values, dim, rows, cols, element, offsets, columns)
 }

@@ -46,12 +46,9 @@ fn blkcsr_in(
 {
     decode_pattern(offs, inds, offsets, columns);
     decode(values, vs);
-    let answer = numbered::blkcsr(dim, rows, cols, element, offs, inds, vs);
-    if answer.number() != 0 {
-        return answer;
-    }
+    numbered::blkcsr(dim, rows, cols, element, offs, inds, vs)?;
     encode(vs, values);
-    answer
+    Ok(())
 }
 
 // With room of its own. A call of few words does not clear the room of the largest matrix.

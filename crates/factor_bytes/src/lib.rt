@@ -27,18 +27,15 @@ pub fn check_factor_bytes(
     ensures { number_of result ≡ first_of (byte_checks offsets columns (misshapen_factor dim offsets columns splits diagonal values || torn)
         ++ factor_lengths dim (offsets / 4) (columns / 4) (splits / 4) (diagonal / 8) (values / 8)) }
 {
-    let answer = check_matrix_bytes(dim, offsets, columns, values, diagonal);
-    if answer.number() != 0 {
-        return answer;
-    }
+    check_matrix_bytes(dim, offsets, columns, values, diagonal)?;
     if is_broken_index(splits) {
-        return Answer::Refused(Refusal::Shape);
+        return Err(Refusal::Shape);
     }
     if torn {
-        return Answer::Refused(Refusal::Shape);
+        return Err(Refusal::Shape);
     }
     if splits / 4 != offsets / 4 - 1 {
-        return Answer::Refused(Refusal::Shape);
+        return Err(Refusal::Shape);
     }
-    answer
+    Ok(())
 }

@@ -3,13 +3,13 @@
 ghost use Rattle.std.specs.Prelude.{◌≡◌, true, false, ◌≤◌, length};
 ghost use Rattle.answers.specs.Checks.{first_of};
 ghost use Rattle.answers.specs.Numbers.{number_of};
-ghost use Rattle.lent.specs.Steps.{Dim};
 ghost use Rattle.patterns.specs.Pattern.{rows_of, valid_pattern, valid_splits};
 ghost use Rattle.patterns.specs.Checks.{too_large};
 ghost use Rattle.factor_check.specs.Checks.{wrong_factor, row_checks};
 ghost use Rattle.factor_check.specs.Steps.{one_if, count_to, falls_at, Apart, RightRow, RightRows};
 
 use answers::{Answer, Refusal};
+use blocks::{Size, block_size};
 use patterns::unchecked::{has_valid_splits, is_valid_pattern};
 
 fn wide(x: u32) -> usize
@@ -19,18 +19,17 @@ fn wide(x: u32) -> usize
 }
 
 // Whether a length is wrong.
-pub fn is_wrong_factor(
-    dim: usize,
+pub fn is_wrong_factor<S: Size>(
     rows: usize,
     columns: usize,
     splits: usize,
     diagonal: usize,
     values: usize,
 ) -> bool
-    requires { (Dim dim) × (rows ≤ 4096) × (columns ≤ 65535) }
-    ensures { result ≡ wrong_factor dim rows columns splits diagonal values }
+    requires { (rows ≤ 4096) × (columns ≤ 65535) }
+    ensures { result ≡ wrong_factor S.DIM rows columns splits diagonal values }
 {
-    let size = dim * dim;
+    let size = block_size::<S>();
     if values != size * columns {
         return true;
     }
@@ -168,13 +167,13 @@ pub fn check_rows(offsets: &[u32], columns: &[u32], splits: &[u32]) -> Answer
     ensures { number_of result ≡ first_of (row_checks offsets.now columns.now splits.now) }
 {
     if is_surely_right(offsets, columns, splits) {
-        return Answer::Done;
+        return Ok(());
     }
     if !is_valid_pattern(offsets, columns) {
-        return Answer::Refused(Refusal::Pattern);
+        return Err(Refusal::Pattern);
     }
     if !has_valid_splits(offsets, columns, splits) {
-        return Answer::Refused(Refusal::Split);
+        return Err(Refusal::Split);
     }
-    Answer::Done
+    Ok(())
 }

@@ -12,6 +12,7 @@ ghost use Rattle.numbered.specs.Checks.{dim_checks};
 ghost use Rattle.numbered_factors.specs.Calls.{Factored, copy_dim_checks};
 ghost use Rattle.outcomes.specs.Calls.{Finished};
 
+use answers::Numbered;
 use outcomes::{Outcome, outcome_of};
 
 #[unsafe(no_mangle)]

@@ -11,6 +11,11 @@ ghost use Rattle.factor_check.specs.Fits.{FactorFits};
 ghost use Rattle.decompose.specs.Steps.{stopped_at};
 ghost use Rattle.copy_rows.specs.Steps.{CopyFits};
 
+use blocks::{One, Three, Two};
+use copy_rows::unchecked::copy_value;
+use decompose::unchecked::decompose;
+use solving::unchecked::solve_preconditioning_vec;
+
 // vec becomes what the factor solves it to.
 #[unsafe(no_mangle)]
 pub extern "C" fn pierbramble_unchecked_solve_preconditioning_vec(
@@ -25,15 +30,11 @@ pub extern "C" fn pierbramble_unchecked_solve_preconditioning_vec(
     requires { (FactorFits dim offsets.now columns.now splits.now (length diagonal.now) (length values.now)) × (length vec.old ≡ dim * rows_of offsets.now) }
     ensures { vec.new ≡ solve binary64 dim (pattern_of offsets.now columns.now splits.now) (factor_of diagonal.now values.now) vec.old }
 {
-    solving::unchecked::solve_preconditioning_vec(
-        vec,
-        dim as usize,
-        offsets,
-        columns,
-        splits,
-        diagonal,
-        values,
-    )
+    match dim {
+        1 => solve_preconditioning_vec::<One>(vec, offsets, columns, splits, diagonal, values),
+        2 => solve_preconditioning_vec::<Two>(vec, offsets, columns, splits, diagonal, values),
+        _ => solve_preconditioning_vec::<Three>(vec, offsets, columns, splits, diagonal, values),
+    }
 }
 
 // The row of the first pivot that can't be inverted, or the number of rows if there is none.
@@ -49,7 +50,11 @@ pub extern "C" fn pierbramble_unchecked_decompose(
     requires { FactorFits dim offsets.now columns.now splits.now (length diagonal.old) (length values.old) }
     ensures { ◌≡◌ {A = Decomposed} (record { left = factor_of diagonal.new values.new; stopped = stopped_at (rows_of offsets.now) result }) (decompose binary64 dim (pattern_of offsets.now columns.now splits.now) (factor_of diagonal.old values.old)) }
 {
-    decompose::unchecked::decompose(diagonal, values, dim as usize, offsets, columns, splits)
+    match dim {
+        1 => decompose::<One>(diagonal, values, offsets, columns, splits),
+        2 => decompose::<Two>(diagonal, values, offsets, columns, splits),
+        _ => decompose::<Three>(diagonal, values, offsets, columns, splits),
+    }
 }
 
 // Neither the splits nor the places of A's entries are looked at: the caller knows that there is one for each.
@@ -68,15 +73,15 @@ pub extern "C" fn pierbramble_unchecked_copy_value(
     requires { (CopyFits dim starts.now entries.now offsets.now columns.now (length a_values.now) (length values.old)) × (length a_diagonal.now ≡ length diagonal.old) }
     ensures { (diagonal.new ≡ a_diagonal.now) × (values.new ≡ copied_rows binary64 dim starts.now entries.now a_values.now offsets.now columns.now) }
 {
-    copy_rows::unchecked::copy_value(
-        diagonal,
-        values,
-        dim as usize,
-        starts,
-        entries,
-        a_diagonal,
-        a_values,
-        offsets,
-        columns,
-    )
+    match dim {
+        1 => copy_value::<One>(
+            diagonal, values, starts, entries, a_diagonal, a_values, offsets, columns,
+        ),
+        2 => copy_value::<Two>(
+            diagonal, values, starts, entries, a_diagonal, a_values, offsets, columns,
+        ),
+        _ => copy_value::<Three>(
+            diagonal, values, starts, entries, a_diagonal, a_values, offsets, columns,
+        ),
+    }
 }

@@ -4,27 +4,59 @@
 
 ghost use Rattle.std.specs.Prelude.{◌≤◌, ◌+◌};
 
+use answers::Numbered;
+use blocks::{One, Three, Two};
 use factor_shapes::{
     at_most, column_count, columns_of, diagonal_length, offset_count, offsets_of, row_count,
     splits_of, values_length, vector_length,
 };
 use limits::Seen;
-use limits::filled::{fill, is_matrix_filled, is_vector_filled};
+use limits::filled::{fill, is_filled};
 
-// Cases: 0 right; 1 to 10 slices 0 to 4 short, long (splits, diagonal, values, and what a call has beside these); 11 an own column;
-// 12 that and a wrong length; 13 both and no row; 14 an unsorted row; 15 and 16 a split too low, too high; 17 that and an own column;
-// 18 and 19 have 4,096 and 4,097 rows without a column; 20 and 21 have 65,535 and 65,536 columns in 257 rows, at N = 1 alone.
-// Of copy_value also: 22 an own column in A; 23 A has a row less; 24 the factor lacks an entry of A; 25 that and a wrong split; 26 A has 4,097 rows; 27 A has 65,536 columns, at N = 1 alone.
-pub fn is_case_of(call: usize, dim: usize, case: usize) -> bool {
-    if case == 20 || case == 21 || case == 27 {
-        if dim != 1 {
-            return false;
+#[derive(Clone, Copy)]
+pub enum FactorCall {
+    CopyValue,
+    Decompose,
+    SolvePreconditioningVec,
+}
+
+impl FactorCall {
+    pub const ALL: [FactorCall; 3] = [
+        FactorCall::CopyValue,
+        FactorCall::Decompose,
+        FactorCall::SolvePreconditioningVec,
+    ];
+
+    // The call's name, up to its N.
+    pub fn name(self) -> &'static str {
+        match self {
+            FactorCall::CopyValue => "copy_value_",
+            FactorCall::Decompose => "decompose_",
+            FactorCall::SolvePreconditioningVec => "solve_preconditioning_vec_",
         }
     }
-    match call {
-        0 => case < 28,
-        1 => case < 22 && (case < 7 || case > 10),
-        _ => case < 22 && (case < 9 || case > 10),
+
+    // Cases: 0 right; 1 to 10 slices 0 to 4 short, long (splits, diagonal, values, and what a call has beside these); 11 an own column;
+    // 12 that and a wrong length; 13 both and no row; 14 an unsorted row; 15 and 16 a split too low, too high; 17 that and an own column;
+    // 18 and 19 have 4,096 and 4,097 rows without a column; 20 and 21 have 65,535 and 65,536 columns in 257 rows, at N = 1 alone.
+    // Of copy_value also: 22 an own column in A; 23 A has a row less; 24 the factor lacks an entry of A; 25 that and a wrong split; 26 A has 4,097 rows; 27 A has 65,536 columns, at N = 1 alone.
+    pub fn has_case(self, dim: usize, case: usize) -> bool {
+        if matches!(case, 20 | 21 | 27) && dim != 1 {
+            return false;
+        }
+        match self {
+            FactorCall::CopyValue => case < 28,
+            FactorCall::Decompose => case < 22 && (case < 7 || case > 10),
+            FactorCall::SolvePreconditioningVec => case < 22 && (case < 9 || case > 10),
+        }
+    }
+
+    pub fn try_case(self, dim: usize, case: usize) -> Seen {
+        match self {
+            FactorCall::CopyValue => try_copy_value(dim, case),
+            FactorCall::Decompose => try_decompose(dim, case),
+            FactorCall::SolvePreconditioningVec => try_solve(dim, case),
+        }
     }
 }
 
@@ -93,15 +125,15 @@ fn copy_value(
     values: &mut [f64],
 ) -> u32 {
     match dim {
-        1 => copying::copy_value_1(
+        1 => copying::copy_value::<One>(
             starts, entries, a_diagonal, a_values, offsets, columns, splits, diagonal, values,
         )
         .number(),
-        2 => copying::copy_value_2(
+        2 => copying::copy_value::<Two>(
             starts, entries, a_diagonal, a_values, offsets, columns, splits, diagonal, values,
         )
         .number(),
-        _ => copying::copy_value_3(
+        _ => copying::copy_value::<Three>(
             starts, entries, a_diagonal, a_values, offsets, columns, splits, diagonal, values,
         )
         .number(),
@@ -143,7 +175,7 @@ fn copy_to(
     );
     Seen {
         number,
-        kept: is_matrix_filled(&values, &diagonal),
+        kept: is_filled(&values) && is_filled(&diagonal),
     }
 }
 
@@ -179,9 +211,9 @@ fn decompose_at(
     values: &mut [f64],
 ) -> u32 {
     match dim {
-        1 => decompose::decompose_1(offsets, columns, splits, diagonal, values).number(),
-        2 => decompose::decompose_2(offsets, columns, splits, diagonal, values).number(),
-        _ => decompose::decompose_3(offsets, columns, splits, diagonal, values).number(),
+        1 => decompose::decompose::<One>(offsets, columns, splits, diagonal, values).number(),
+        2 => decompose::decompose::<Two>(offsets, columns, splits, diagonal, values).number(),
+        _ => decompose::decompose::<Three>(offsets, columns, splits, diagonal, values).number(),
     }
 }
 
@@ -208,7 +240,7 @@ fn try_decompose(dim: usize, case: usize) -> Seen {
     );
     Seen {
         number,
-        kept: is_matrix_filled(&values, &diagonal),
+        kept: is_filled(&values) && is_filled(&diagonal),
     }
 }
 
@@ -222,13 +254,13 @@ fn solve(
     values: &[f64],
 ) -> u32 {
     match dim {
-        1 => precondition::solve_preconditioning_vec_1(
+        1 => precondition::solve_preconditioning_vec::<One>(
             vec, offsets, columns, splits, diagonal, values,
         ).number(),
-        2 => precondition::solve_preconditioning_vec_2(
+        2 => precondition::solve_preconditioning_vec::<Two>(
             vec, offsets, columns, splits, diagonal, values,
         ).number(),
-        _ => precondition::solve_preconditioning_vec_3(
+        _ => precondition::solve_preconditioning_vec::<Three>(
             vec, offsets, columns, splits, diagonal, values,
         ).number(),
     }
@@ -259,14 +291,6 @@ fn try_solve(dim: usize, case: usize) -> Seen {
     );
     Seen {
         number,
-        kept: is_vector_filled(&vec),
-    }
-}
-
-pub fn try_case(call: usize, dim: usize, case: usize) -> Seen {
-    match call {
-        0 => try_copy_value(dim, case),
-        1 => try_decompose(dim, case),
-        _ => try_solve(dim, case),
+        kept: is_filled(&vec),
     }
 }

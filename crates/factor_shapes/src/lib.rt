@@ -86,34 +86,22 @@ pub fn values_length(shape: usize, dim: usize) -> usize
 pub fn at_most(x: usize, most: usize) -> usize
     ensures { result ≤ most }
 {
-    if x < most { x } else { most }
-}
-
-// A word of a slice, if it has that place.
-fn put_index(words: &mut [u32], at: usize, x: u32) {
-    if at < words.len() {
-        words[at] = x;
-    }
+    x.min(most)
 }
 
 // The first words of a slice.
 fn begin(words: &mut [u32], first: [u32; 6]) {
-    put_index(words, 0, first[0]);
-    put_index(words, 1, first[1]);
-    put_index(words, 2, first[2]);
-    put_index(words, 3, first[3]);
-    put_index(words, 4, first[4]);
-    put_index(words, 5, first[5]);
+    for (word, x) in words.iter_mut().zip(first) {
+        *word = x;
+    }
 }
 
 // Rows of 255 columns each. A remainder changes no offset up to 65,535: it keeps the sum in its 32 bits.
 fn fill_wide_offsets(offsets: &mut [u32]) {
     let mut at: u32 = 0;
-    let mut i = 0;
-    while i < offsets.len() {
-        offsets[i] = at;
+    for offset in offsets.iter_mut() {
+        *offset = at;
         at = at % 65536 + 255;
-        i += 1;
     }
 }
 
@@ -140,12 +128,10 @@ fn row_at(place: u32, row: u32) -> u32 {
 fn fill_wide_columns(columns: &mut [u32]) {
     let mut row: u32 = 0;
     let mut place: u32 = 0;
-    let mut k = 0;
-    while k < columns.len() {
-        columns[k] = wide_column(row, place);
+    for column in columns.iter_mut() {
+        *column = wide_column(row, place);
         place = next_place(place);
         row = row_at(place, row);
-        k += 1;
     }
 }
 
@@ -159,11 +145,9 @@ fn wide_split(row: u32) -> u32 {
 
 fn fill_wide_splits(splits: &mut [u32]) {
     let mut row: u32 = 0;
-    let mut k = 0;
-    while k < splits.len() {
-        splits[k] = wide_split(row);
+    for split in splits.iter_mut() {
+        *split = wide_split(row);
         row = row % 1024 + 1;
-        k += 1;
     }
 }
 

@@ -1,9 +1,9 @@
 -- The preconditioned method from its start: below epsilon, or with the steps.
 -- Assumes nothing.
 use mathlib.Core.Path.{◌≡◌, refl, sym, ap, ◌∙◌}
-use mathlib.Core.List.{List, [], ◌∷◌}
+use mathlib.Core.List.{List, []}
 use mathlib.Core.Bool.{true, false}
-use Prim.Native.Nat.{ℕ, ◌+◌, ◌≤◌}
+use Prim.Native.Nat.{ℕ, ◌≤◌}
 use native.Mathlib.Omega.{arith}
 use lib.ListN.{length, set}
 use lib.Ieee.{Float, binary64, div, lt, of_bits}
@@ -12,7 +12,7 @@ use Rattle.patterns.specs.Pattern.{rows_of}
 use Rattle.vectors.specs.Vectors.{zeroed, copied, dot_to}
 use Rattle.root.specs.Sqrt.{sqrt}
 use Rattle.solvers.specs.Method.{Matrix, state_of, dot_all, run}
-use Rattle.solvers.specs.Solvers.{epsilon, Factor, preconditioned, by_factor, with_norms, preconditioned_gradient}
+use Rattle.solvers.specs.Solvers.{Factor, by_factor, with_norms, preconditioned_gradient}
 use Rattle.advancing.specs.Steps.{Leaves}
 use Rattle.advancing.proofs.StepLaws.{epsilon_is}
 use Rattle.advancing.proofs.OverLaws.{over_none, set_over}

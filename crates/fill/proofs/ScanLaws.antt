@@ -37,6 +37,9 @@ module _ (row : List ℕ) (j : ℕ) where
   pub room_left : (n m : ℕ) → get_or row j 0 ≢ 0 → j < n → length (columns_from (levels_in row) 0 n) ≤ m → length (columns_from (levels_in row) 0 j) < m
   room_left n m h b r = omega (arith, count_hit h, fewer (levels_in row) (j + 1) n (omega arith))
 
+  pub room_here : (m : ℕ) → get_or row j 0 ≢ 0 → j < length row → length (columns_from (levels_in row) 0 (length row)) ≤ m → length (columns_from (levels_in row) 0 j) < m
+  room_here m h b r = room_left (length row) m h b r
+
   pub write_column : (at : ℕ) (s s₀ : List ℕ) → get_or row j 0 ≢ 0 → at ≡ length (columns_from (levels_in row) 0 j) → at < length s₀ → s ≡ over (columns_from (levels_in row) 0 j) s₀
       → set s at j ≡ over (columns_from (levels_in row) 0 (j + 1)) s₀
   write_column at s s₀ h e b inv = rw (inv, e, columns_hit h) (over_more (columns_from (levels_in row) 0 j) s₀ j (omega arith))

@@ -26,20 +26,12 @@ pub fn is_wrong_output(n: usize, offsets: usize, columns: usize, splits: usize) 
 pub fn clear(s: &mut [u32])
     ensures { s.new ≡ replicate (length s.old) 0 }
 {
-    let mut i = 0;
-    while i < s.len() {
-        s[i] = 0;
-        i += 1;
-    }
+    s.fill(0);
 }
 
 // The same for words of 16 bits.
 pub fn clear_levels(levels: &mut [u16])
     ensures { levels.new ≡ replicate (length levels.old) 0 }
 {
-    let mut i = 0;
-    while i < levels.len() {
-        levels[i] = 0;
-        i += 1;
-    }
+    levels.fill(0);
 }

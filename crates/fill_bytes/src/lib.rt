@@ -16,7 +16,7 @@ ghost use Rattle.pattern_bytes.specs.Checks.{broken};
 ghost use Rattle.fill_bytes.specs.Checks.{broken_outputs, broken_fill, broken_iluk, full_byte_checks, ilu0_byte_checks, iluk_byte_checks, length_checks};
 ghost use Rattle.fill_way.specs.Promise.{Wrote, Cleared, full_columns_in, ilu0_columns, iluk_offsets, iluk_columns, iluk_splits};
 
-use answers::{Answer, Refusal, Rows};
+use answers::{Answer, Numbered, Refusal, Rows};
 use fill::is_wrong_output;
 use fill_way::unchecked::{Call, clear_if_written, write_lent};
 use iluk::has_wrong_lengths;
@@ -78,15 +78,15 @@ fn check_full(n: usize, offsets: usize, columns: usize, splits: usize) -> Answer
     ensures { number_of result ≡ first_of (length_checks (rows_out_of_range n) (broken_outputs offsets columns splits) (wrong_outputs n (offsets / 4) (columns / 4) (splits / 4))) }
 {
     if Rows(n).out_of_range() {
-        return Answer::Refused(Refusal::Size);
+        return Err(Refusal::Size);
     }
     if is_broken_outputs(offsets, columns, splits) {
-        return Answer::Refused(Refusal::Shape);
+        return Err(Refusal::Shape);
     }
     if is_wrong_output(n, offsets / 4, columns / 4, splits / 4) {
-        return Answer::Refused(Refusal::Shape);
+        return Err(Refusal::Shape);
     }
-    Answer::Done
+    Ok(())
 }
 
 // All other columns of each of n rows.
@@ -95,10 +95,7 @@ pub fn initialize_full(n: u32, offsets: &mut [u8], columns: &mut [u8], splits: &
         (bytes_of_indexes (full_offsets n)) (bytes_of_indexes (full_columns_in n (length columns.old / 4))) (bytes_of_indexes (full_splits n))
         offsets.old columns.old splits.old offsets.new columns.new splits.new }
 {
-    let checked = check_full(n as usize, offsets.len(), columns.len(), splits.len());
-    if checked.number() != 0 {
-        return checked;
-    }
+    check_full(n as usize, offsets.len(), columns.len(), splits.len())?;
     let no_starts = [0u8; 1];
     let no_entries = [0u8; 1];
     write_lent(
@@ -124,14 +121,11 @@ fn check_ilu0(
         (wrong_outputs (starts / 4 - 1) (offsets / 4) (columns / 4) (splits / 4))) }
 {
     let broken = is_broken_fill(starts, entries, offsets, columns, splits);
-    let answer = check_bytes(starts, entries, broken);
-    if answer.number() != 0 {
-        return answer;
-    }
+    check_bytes(starts, entries, broken)?;
     if is_wrong_output(starts / 4 - 1, offsets / 4, columns / 4, splits / 4) {
-        return Answer::Refused(Refusal::Shape);
+        return Err(Refusal::Shape);
     }
-    Answer::Done
+    Ok(())
 }
 
 // The rows of A sorted, with their splits.
@@ -148,16 +142,13 @@ pub fn initialize_ilu0(
         (bytes_of_indexes (sorted_splits (indexes_in starts.now) (indexes_in entries.now)))
         offsets.old columns.old splits.old offsets.new columns.new splits.new }
 {
-    let checked = check_ilu0(
+    check_ilu0(
         starts.len(),
         entries.len(),
         offsets.len(),
         columns.len(),
         splits.len(),
-    );
-    if checked.number() != 0 {
-        return checked;
-    }
+    )?;
     write_lent(offsets, columns, splits, Call::Ilu0, 0, starts, entries)
 }
 
@@ -175,10 +166,7 @@ fn check_iluk(
         (wrong_lengths (starts / 4 - 1) (offsets / 4) (columns / 4) (splits / 4) (levels / 2) (row / 4))) }
 {
     let broken = is_broken_iluk(starts, entries, offsets, columns, splits, levels, row);
-    let answer = check_bytes(starts, entries, broken);
-    if answer.number() != 0 {
-        return answer;
-    }
+    check_bytes(starts, entries, broken)?;
     if has_wrong_lengths(
         starts / 4 - 1,
         offsets / 4,
@@ -187,9 +175,9 @@ fn check_iluk(
         levels / 2,
         row / 4,
     ) {
-        return Answer::Refused(Refusal::Shape);
+        return Err(Refusal::Shape);
     }
-    Answer::Done
+    Ok(())
 }
 
 // The fill of A at level k. Of the work nothing is coded: its bytes are 0 after a call that writes.
@@ -210,7 +198,7 @@ pub fn initialize_iluk(
         offsets.old columns.old splits.old offsets.new columns.new splits.new }
     ensures cleared { Cleared (number_of result) levels.old row.old levels.new row.new }
 {
-    let checked = check_iluk(
+    check_iluk(
         starts.len(),
         entries.len(),
         offsets.len(),
@@ -218,10 +206,7 @@ pub fn initialize_iluk(
         splits.len(),
         levels.len(),
         row.len(),
-    );
-    if checked.number() != 0 {
-        return checked;
-    }
+    )?;
     let answer = write_lent(offsets, columns, splits, Call::Iluk, k, starts, entries);
     let number = answer.number();
     clear_if_written(levels, number);

@@ -8,9 +8,28 @@ pub mod words;
 
 ghost use Rattle.std.specs.Prelude.{◌≤◌};
 
+use answers::Numbered;
 use limits::ring::{fill_columns, fill_offsets};
 use plates::fill_pattern;
-use words::{is_left, is_left_of_levels};
+use std::fmt;
+use words::is_left;
+
+#[derive(Clone, Copy, PartialEq, Eq)]
+pub enum FillCall {
+    Ilu0,
+    Full,
+    Iluk,
+}
+
+impl FillCall {
+    pub fn name(self) -> &'static str {
+        match self {
+            FillCall::Ilu0 => "initialize_ilu0",
+            FillCall::Full => "initialize_full",
+            FillCall::Iluk => "initialize_iluk",
+        }
+    }
+}
 
 // The number, how many entries were written, and whether every other lent word is what document 01 has after that number.
 #[derive(Drop)]
@@ -18,6 +37,17 @@ pub struct Filled {
     pub number: u32,
     pub entries: u32,
     pub right: bool,
+}
+
+// The number; words that are not what document 01 has after it are shouted.
+impl fmt::Display for Filled {
+    fn fmt<W: fmt::Write>(&self, f: &mut fmt::Formatter<W>) -> fmt::Result {
+        write!(f, " {}", self.number)?;
+        if !self.right {
+            f.write_str(" WRONG")?;
+        }
+        Ok(())
+    }
 }
 
 // How many words of each slice are lent.
@@ -33,7 +63,7 @@ struct Lengths {
 fn at_most(x: usize, most: usize) -> usize
     ensures { result ≤ most }
 {
-    if x < most { x } else { most }
+    x.min(most)
 }
 
 // The last of the first words of a slice, and 0 where there is none.
@@ -48,7 +78,7 @@ fn last_of(words: &[u32], count: usize) -> u32 {
 }
 
 fn run(
-    call: usize,
+    call: FillCall,
     n: u32,
     k: u32,
     starts: &[u32],
@@ -60,9 +90,9 @@ fn run(
     row: &mut [u32],
 ) -> u32 {
     match call {
-        0 => ilu0::initialize_ilu0(starts, entries, offsets, columns, splits).number(),
-        1 => full::initialize_full(n, offsets, columns, splits).number(),
-        _ => iluk::initialize_iluk(
+        FillCall::Ilu0 => ilu0::initialize_ilu0(starts, entries, offsets, columns, splits).number(),
+        FillCall::Full => full::initialize_full(n, offsets, columns, splits).number(),
+        FillCall::Iluk => iluk::initialize_iluk(
             starts, entries, k, offsets, columns, splits, levels, row,
         ).number(),
     }
@@ -82,8 +112,8 @@ fn zero_from(number: u32, used: usize) -> usize {
 }
 
 // The work of initialize_iluk is lent to no other call.
-fn work(call: usize, lent: usize) -> usize {
-    if call < 2 { 0 } else { lent }
+fn work(call: FillCall, lent: usize) -> usize {
+    if call == FillCall::Iluk { lent } else { 0 }
 }
 
 // What a call leaves in rooms of which these lengths were lent.
@@ -112,7 +142,7 @@ fn seen(
         zero_from(number, lent.splits),
         written(number, lent.splits),
     );
-    right &= is_left_of_levels(levels, written(number, lent.levels));
+    right &= is_left(levels, 0, written(number, lent.levels));
     right &= is_left(row, 0, written(number, lent.row));
     Filled {
         number,
@@ -122,7 +152,14 @@ fn seen(
 }
 
 // A call on lent words of these lengths, all dirty before it, as are those past them.
-fn try_fill(call: usize, n: u32, k: u32, starts: &[u32], entries: &[u32], lent: Lengths) -> Filled {
+fn try_fill(
+    call: FillCall,
+    n: u32,
+    k: u32,
+    starts: &[u32],
+    entries: &[u32],
+    lent: Lengths,
+) -> Filled {
     let a = at_most(lent.offsets, 4099);
     let b = at_most(lent.columns, 65536);
     let c = at_most(lent.splits, 4098);
@@ -159,10 +196,10 @@ fn try_fill(call: usize, n: u32, k: u32, starts: &[u32], entries: &[u32], lent: 
 // 10 own columns; 11 those and offsets too long; 12 both and no row; 13 and 14 room of 65,535 and 65,536; 15 one row and no room;
 // 16 and 17 have 4,096 and 4,097 rows without an entry; 18 and 19 have 65,535 and 65,536 entries, at k = 0.
 // A call has not all of them: initialize_ilu0 has no work, and initialize_full neither work nor a pattern.
-pub fn is_case_of(call: usize, case: usize) -> bool {
+pub fn is_case_of(call: FillCall, case: usize) -> bool {
     match case {
-        5 | 6 | 7 | 8 => call == 2,
-        10 | 11 | 18 | 19 => call != 1,
+        5 | 6 | 7 | 8 => call == FillCall::Iluk,
+        10 | 11 | 18 | 19 => call != FillCall::Full,
         _ => true,
     }
 }
@@ -254,7 +291,7 @@ fn start(case: usize) -> u32 {
     }
 }
 
-pub fn try_limit(call: usize, case: usize) -> Filled {
+pub fn try_limit(call: FillCall, case: usize) -> Filled {
     let mut starts = [0u32; 4098];
     let mut entries = [0u32; 65536];
     let n = row_count(case);
@@ -284,7 +321,7 @@ fn right_lengths(n: usize, columns: usize) -> Lengths
 }
 
 // A pattern of `plates` with 4,096 rows, in all the room that there may be.
-pub fn try_plate(call: usize, kind: usize, k: u32) -> Filled {
+pub fn try_plate(call: FillCall, kind: usize, k: u32) -> Filled {
     let mut starts = [0u32; 4098];
     let mut entries = [0u32; 65536];
     let count = fill_pattern(&mut starts, &mut entries, kind, 4096);
@@ -302,7 +339,14 @@ pub fn try_plate(call: usize, kind: usize, k: u32) -> Filled {
 // initialize_full of 256 rows, which have 65,280 entries, and of 257, in all the room that there may be.
 pub fn try_full(case: usize) -> Filled {
     let n = full_rows(case);
-    try_fill(1, n, 0, &[0], &[], right_lengths(n as usize, 65535))
+    try_fill(
+        FillCall::Full,
+        n,
+        0,
+        &[0],
+        &[],
+        right_lengths(n as usize, 65535),
+    )
 }
 
 fn full_rows(case: usize) -> u32

@@ -25,10 +25,8 @@ fn push_below(entries: &mut [u32], at: u32, column: u32, n: u32) -> u32 {
 // The columns below `count`, falling.
 fn push_falling(entries: &mut [u32], at: u32, count: u32) -> u32 {
     let mut next = at;
-    let mut left = count;
-    while left > 0 {
-        left -= 1;
-        next = push(entries, next, left);
+    for column in (0..count).rev() {
+        next = push(entries, next, column);
     }
     next
 }
@@ -70,10 +68,8 @@ fn push_band(entries: &mut [u32], at: u32, i: u32, n: u32) -> u32
     requires { i ≤ 4096 }
 {
     let mut next = at;
-    let mut place = 0;
-    while place < 4 {
+    for place in 0..4 {
         next = push_below(entries, next, band_column(place, i, n), n);
-        place += 1;
     }
     next
 }
@@ -106,11 +102,9 @@ fn put_start(starts: &mut [u32], i: u32, at: u32)
 // The pattern of a kind with n rows, at most 4,096, into offsets whose first is 0; answers how many entries it has.
 pub fn fill_pattern(starts: &mut [u32], entries: &mut [u32], kind: usize, n: u32) -> u32 {
     let mut at = 0;
-    let mut i = 0;
-    while i < 4096 {
+    for i in 0..4096 {
         at = push_row(entries, at, kind, i, n);
         put_start(starts, i, at);
-        i += 1;
     }
     at
 }

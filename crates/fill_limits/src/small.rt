@@ -2,6 +2,8 @@
 // P has the pairs 0-2, 0-3, 1-2, 1-4; Q, of case 5, the pairs 0-3, 0-1, 1-2, 2-4; both ways, rows not sorted.
 ghost use Rattle.std.specs.Prelude.{◌≤◌};
 
+use answers::Numbered;
+
 // A call's number, and what it writes of n rows.
 #[derive(Drop)]
 pub struct Written {

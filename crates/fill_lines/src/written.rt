@@ -1,41 +1,14 @@
 // What a call that writes a pattern leaves, as the words of its line.
 // A level is a word as an index is, of 16 bits.
-use lines::line::{after, are_indexes, count_at, is_answer, place, word_at};
+use lines::line::{Line, after};
 
-// Slice k of a line whose slices begin at a place, as levels. As many of them count as the line says.
-pub fn levels_of(words: [u64; 128], first: usize, k: usize) -> [u16; 128] {
-    let at = place(words, first, k);
-    let mut levels = [0u16; 128];
-    let mut i = 0;
-    while i < 128 {
-        levels[i] = (word_at(words, at, i) % 65536) as u16;
-        i += 1;
-    }
-    levels
-}
-
-fn wide(level: u16) -> u64 {
-    level as u64
-}
-
-// Whether the first levels are those that the line has from a place on.
-fn are_levels(words: [u64; 128], at: usize, levels: &[u16; 128], count: usize) -> bool {
-    let mut k = 0;
-    while k < count {
-        if k >= 128 {
-            return false;
-        }
-        if wide(levels[k]) != word_at(words, at, k) {
-            return false;
-        }
-        k += 1;
-    }
-    true
+pub fn level_of(word: u64) -> u16 {
+    (word & 0xffff) as u16
 }
 
 // Whether the answer at a place is this one, and slices k to k + 2 hold the indexes after it.
 pub fn leaves_pattern(
-    words: [u64; 128],
+    line: &Line,
     at: usize,
     number: u32,
     k: usize,
@@ -43,35 +16,19 @@ pub fn leaves_pattern(
     columns: &[u32; 128],
     splits: &[u32; 128],
 ) -> bool {
-    if !is_answer(words, at, number) {
-        return false;
-    }
     let first = after(at, 2);
-    let rows = count_at(words, k);
-    if !are_indexes(words, first, offsets, rows) {
-        return false;
-    }
-    let second = after(first, rows);
-    let room = count_at(words, after(k, 1));
-    if !are_indexes(words, second, columns, room) {
-        return false;
-    }
-    are_indexes(
-        words,
-        after(second, room),
-        splits,
-        count_at(words, after(k, 2)),
-    )
+    let second = after(first, line.count(k));
+    let third = after(second, line.count(after(k, 1)));
+    line.is_answer(at, number)
+        && line.are_indexes(first, &offsets[..line.count(k)])
+        && line.are_indexes(second, &columns[..line.count(after(k, 1))])
+        && line.are_indexes(third, &splits[..line.count(after(k, 2))])
 }
 
 // Whether slices 5 and 6 hold the levels and the indexes after those of slices 2 to 4, whose answer is at a place.
-pub fn leaves_work(words: [u64; 128], at: usize, levels: &[u16; 128], row: &[u32; 128]) -> bool {
-    let second = after(after(at, 2), count_at(words, 2));
-    let third = after(second, count_at(words, 3));
-    let fourth = after(third, count_at(words, 4));
-    let count = count_at(words, 5);
-    if !are_levels(words, fourth, levels, count) {
-        return false;
-    }
-    are_indexes(words, after(fourth, count), row, count_at(words, 6))
+pub fn leaves_work(line: &Line, at: usize, levels: &[u16; 128], row: &[u32; 128]) -> bool {
+    let fifth = after(after(at, 2), line.counts(2..5));
+    line.are(fifth, &levels[..line.count(5)], |level: u16, word| {
+        u64::from(level) == word
+    }) && line.are_indexes(after(fifth, line.count(5)), &row[..line.count(6)])
 }

@@ -13,37 +13,8 @@ pub struct Span {
     pub high: usize,
 }
 
-fn wide(x: u32) -> usize
-    ensures { result ≡ x }
-{
-    x as usize
-}
-
-fn wide_level(x: u16) -> u32
-    ensures { result ≡ x }
-{
-    x as u32
-}
-
-fn greater_level(a: u32, b: u32) -> u32
-    ensures { result ≡ max a b }
-{
-    if a < b { b } else { a }
-}
-
-fn greater(a: usize, b: usize) -> usize
-    ensures { result ≡ max a b }
-{
-    if a < b { b } else { a }
-}
-
-fn lesser(a: usize, b: usize) -> usize
-    ensures { result ≡ min a b }
-{
-    if a < b { a } else { b }
-}
-
 // The lesser of two words, where 0 is none.
+#[tactic(auto, using(fill::proofs::LevelLaws::least_left, fill::proofs::LevelLaws::least_right))]
 fn least_of(v: u32, w: u32) -> u32
     ensures { result ≡ least v w }
 {
@@ -54,6 +25,7 @@ fn least_of(v: u32, w: u32) -> u32
 }
 
 // The pivot's entry at a column, of level l, is taken to row i, where the level of (i, p) is a.
+#[tactic(auto, unfolding(fill::specs::Steps::spread_one))]
 fn spread_one(row: &mut [u32], i: u32, a: u32, k: u32, column: u32, l: u32)
     requires { (column < length row.old) × (a < 65536) × (l < 65536) }
     ensures { row.new ≡ spread_one k i a column l row.old }
@@ -64,9 +36,9 @@ fn spread_one(row: &mut [u32], i: u32, a: u32, k: u32, column: u32, l: u32)
     if column == i {
         return;
     }
-    let at = wide(column);
+    let at = column as usize;
     let word = row[at];
-    let greatest = greater_level(a, l);
+    let greatest = a.max(l);
     row[at] = least_of(word, greatest + 2);
 }
 
@@ -75,27 +47,27 @@ fn spread(row: &mut [u32], i: u32, a: u32, k: u32, columns: &[u32], levels: &[u1
     requires { (a < 65536) × (length columns.now ≡ length levels.now) × ((e : ℕ) → e < length columns.now → get_or columns.now e 0 < length row.old) }
     ensures { row.new ≡ spread_all k i a columns.now levels.now row.old }
 {
-    let mut e = 0;
-    while e < columns.len() {
+    for e in 0..columns.len() {
         let column = columns[e];
-        let l = wide_level(levels[e]);
+        let l = levels[e] as u32;
         spread_one(row, i, a, k, column, l);
-        e += 1;
     }
 }
 
 // The end of a span that takes in the last of rising columns.
+#[tactic(auto, unfolding(fill::specs::Steps::end_of))]
 fn end_of(columns: &[u32], high: usize) -> usize
     ensures { result ≡ end_of columns.now high }
 {
     if columns.len() == 0 {
         return high;
     }
-    let last = wide(columns[columns.len() - 1]);
-    greater(high, last + 1)
+    let last = columns[columns.len() - 1] as usize;
+    high.max(last + 1)
 }
 
 // The pivot p, whose upper part stands at s .. e, gives row i what it gives. Answers where the row's span ends then.
+#[tactic(auto, using(fill::proofs::PivotLaws::parts_same, fill::proofs::PivotLaws::pivot_none, fill::proofs::PivotLaws::pivot_high_lem, fill::proofs::PivotLaws::pivot_spread), unfolding(fill::specs::Steps::pivot_high))]
 fn take_pivot(
     row: &mut [u32],
     i: u32,
@@ -123,57 +95,52 @@ fn take_pivot(
 }
 
 // The span of columns below n. Where there is none it is empty, at n.
+#[tactic(auto, using(fill::proofs::SpanLaws::spans_more))]
 fn span_of(columns: &[u32], n: usize) -> Span
     requires { (e : ℕ) → e < length columns.now → get_or columns.now e 0 < n }
     ensures { (Spans result.low result.high columns.now (length columns.now)) × (result.low ≤ result.high) × (result.high ≤ n) }
 {
     let mut low = n;
-    let mut high = 0;
-    let mut e = 0;
-    while e < columns.len() {
-        let column = wide(columns[e]);
-        low = lesser(low, column);
-        high = greater(high, column + 1);
-        e += 1;
+    let mut high: usize = 0;
+    for column in columns {
+        let at = *column as usize;
+        low = low.min(at);
+        high = high.max(at + 1);
     }
     Span {
-        low: low,
-        high: greater(low, high),
+        low,
+        high: low.max(high),
     }
 }
 
 // A's entries have level 0.
+#[tactic(auto, using(base::proofs::Iterate::iterate_none, base::proofs::Iterate::iterate_more), unfolding(fill::specs::Steps::load_one, fill::specs::Steps::loaded))]
 fn load_row(row: &mut [u32], columns: &[u32])
     requires { (e : ℕ) → e < length columns.now → get_or columns.now e 0 < length row.old }
     ensures { row.new ≡ loaded columns.now row.old }
 {
-    let mut e = 0;
-    while e < columns.len() {
-        let column = wide(columns[e]);
-        row[column] = 1;
-        e += 1;
+    for column in columns {
+        row[*column as usize] = 1;
     }
 }
 
 // The number of marks below a column, where none stands below `low`.
+#[tactic(auto, using(fill::proofs::SpanLaws::columns_before, fill::proofs::ScanLaws::columns_skip, fill::proofs::ScanLaws::count_hit))]
 pub fn count_marks(row: &[u32], low: usize, to: usize) -> usize
     requires { (to ≤ length row.now) × ((j : ℕ) → j < low → get_or row.now j 0 ≡ 0) }
     ensures { result ≡ length (columns_from (levels_in row.now) 0 to) }
 {
     let mut found = 0;
-    let mut j = low;
-    while j < to {
-        if row[j] == 0 {
-            j += 1;
-        } else {
+    for j in low..to {
+        if row[j] != 0 {
             found += 1;
-            j += 1;
         }
     }
     found
 }
 
 // The columns of the marks are written out rising, with their levels.
+#[tactic(auto, using(fill::proofs::Lists::over_none, fill::proofs::SpanLaws::columns_before, fill::proofs::SpanLaws::levels_before, fill::proofs::SpanLaws::columns_after_lem, fill::proofs::SpanLaws::levels_after_lem, fill::proofs::ScanLaws::room_here))]
 fn write_row(columns: &mut [u32], levels: &mut [u16], row: &[u32], low: usize, high: usize)
     requires low_le_high { (low ≤ high) × (high ≤ length row.now) × (length row.now ≤ 65536) × ((j : ℕ) → j < length row.now → get_or row.now j 0 ≤ j + 1) }
     requires by_index { ((j : ℕ) → j < low → get_or row.now j 0 ≡ 0) × ((j : ℕ) → high ≤ j → get_or row.now j 0 ≡ 0) }
@@ -182,32 +149,30 @@ fn write_row(columns: &mut [u32], levels: &mut [u16], row: &[u32], low: usize, h
     ensures levels_after { levels.new ≡ over (levels_from (levels_in row.now) 0 (length row.now)) levels.old }
 {
     let mut at = 0;
-    let mut j = low;
-    while j < high {
+    for j in low..high {
         let word = row[j];
-        if word == 0 {
-            j += 1;
-        } else {
+        if word != 0 {
             columns[at] = j as u32;
             levels[at] = (word - 1) as u16;
             at += 1;
-            j += 1;
         }
     }
 }
 
 // Row i of A is loaded into a clear row.
+#[tactic(auto, using(fill::proofs::PivotLaws::part_ends, fill::proofs::PivotLaws::part_below))]
 fn start_row(row: &mut [u32], i: usize, offsets: &[u32], columns: &[u32]) -> Span
     requires { Loadable offsets.now columns.now i row.old }
     ensures { Started (stored offsets.now columns.now) (length row.old) i result.low result.high row.new }
 {
-    let a = wide(offsets[i]);
-    let b = wide(offsets[i + 1]);
+    let a = offsets[i] as usize;
+    let b = offsets[i + 1] as usize;
     load_row(row, &columns[a..b]);
     span_of(&columns[a..b], row.len())
 }
 
 // The levels of row i. Pivots outside its span give nothing: a row that has few columns far below its own is not gone through.
+#[tactic(auto, using(fill::proofs::SpanLaws::skip_rest, fill::proofs::PivotLaws::levelled_as))]
 pub fn row_levels(
     row: &mut [u32],
     i: u32,
@@ -222,26 +187,23 @@ pub fn row_levels(
     requires { RowReady starts.now entries.now k i row.old offsets.now columns.now splits.now levels.now }
     ensures { Worked (stored starts.now entries.now) k (length row.old) i result.low result.high row.new }
 {
-    let own = wide(i);
+    let own = i as usize;
     let span = start_row(row, own, starts, entries);
     let low = span.low;
     let mut high = span.high;
-    let mut p = lesser(low, own);
-    let mut end = lesser(high, own);
-    while p < end {
-        let s = wide(splits[p]);
-        let e = wide(offsets[p + 1]);
+    for p in low.min(own)..own {
+        if high <= p {
+            break;
+        }
+        let s = splits[p] as usize;
+        let e = offsets[p + 1] as usize;
         high = take_pivot(row, i, k, p, s, e, columns, levels, high);
-        end = lesser(high, own);
-        p += 1;
     }
-    Span {
-        low: low,
-        high: high,
-    }
+    Span { low, high }
 }
 
 // Row i, which has `all` marks, is written out at `at` with its split and its end, and cleared.
+#[tactic(auto, using(fill::proofs::PutLaws::put_columns, fill::proofs::PutLaws::put_levels, fill::proofs::PutLaws::put_is))]
 pub fn put_row(
     columns: &mut [u32],
     levels: &mut [u16],

@@ -6,7 +6,7 @@ ghost use Rattle.fill.specs.Promise.{cleared, leaves};
 ghost use Rattle.wire.specs.Words.{bytes_of_indexes};
 ghost use Rattle.fill_way.specs.Ways.{writes, WroteWords, WroteBytes, HeldFill, is_small};
 
-use answers::Answer;
+use answers::{Answer, Numbered};
 use pattern_bytes::unchecked::decode_pattern;
 use wire::unchecked::encode_indexes;
 

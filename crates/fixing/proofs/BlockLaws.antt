@@ -1,6 +1,6 @@
 -- Blocks by their elements, for every N at once: what stands at a place of a block, a block that is its own elements, and a part that is put back where it was.
 -- Assumes nothing.
-use mathlib.Core.Path.{◌≡◌, ap, ◌∙◌}
+use mathlib.Core.Path.{◌≡◌, sym, ap, ◌∙◌}
 use mathlib.Core.List.{List}
 use Prim.Native.Nat.{ℕ, zero, suc, ◌+◌, ◌*◌, ◌/◌, ◌%◌, ◌≤◌, ◌<◌}
 use native.Mathlib.Nat.{mul-le-mul_left, mod-lt, mod-eq_of_lt, div-eq_of_lt, mod-add-div, add-mul-mod_self_left, add-mul-div_left, div-lt_iff_lt-mul}
@@ -42,6 +42,12 @@ pub block_same : (n : ℕ) (g : ℕ → ℕ → Float) (v : ℕ → Float) → (
 block_same n g v same =
     listed_same (n * n) (λ j. g (j % n) (j / n)) v
     (λ j l. same (j % n) (j / n) (row_below n j l) (column_below n j l) ∙ ap (λ (k : ℕ). get_or (listed (n * n) v) k nan) (mod-add-div j n) ∙ listed_at (n * n) v j l)
+
+-- a block whose values are made anew, each from its place
+pub anew : (n : ℕ) (h : ℕ → ℕ → Float → Float) (a : List Float) → listed (n * n) (λ k. h (k % n) (k / n) (get_or a k nan)) ≡ block_of n (λ r c. h r c (element n a r c))
+anew n h a =
+    listed_same (n * n) (λ k. h (k % n) (k / n) (get_or a k nan)) (λ k. h (k % n) (k / n) (element n a (k % n) (k / n)))
+    (λ k l. ap (λ (j : ℕ). h (k % n) (k / n) (get_or a j nan)) (sym (mod-add-div k n)))
 
 -- what stood at a place is put back there
 pub put_back : (m p : ℕ) (values : List Float) → p + m ≤ length values → put_at p (values_at m values p) values ≡ values

@@ -6,8 +6,8 @@ use mathlib.Core.Bool.{true, false, not}
 use Prim.Native.Nat.{ℕ, ◌*◌}
 use native.Mathlib.Omega.{arith}
 use lib.ListN.{length}
-use Rattle.answers.specs.declared.Answer.{Answer}
-use Rattle.answers.specs.declared.Answer.TheVariants.{Refused}
+use Rattle.std.specs.Prelude.{Err}
+use Rattle.answers.specs.Numbers.{Answer}
 use Rattle.answers.specs.declared.Refusal.TheVariants.{Pattern}
 use Rattle.answers.specs.Numbers.{number_of}
 use Rattle.answers.specs.Checks.{◌when◌, first_of, none_holds, order, in_order}
@@ -37,11 +37,11 @@ module _ (n : ℕ) (o cs : List ℕ) (values diagonal flags : ℕ) where
     same_lent_at_end (vector_checks n o cs values diagonal flags flags) new old a b x y p q,
   )
 
-  pub lengths_refuse : {A : Type 0} (answer : Answer) (k : ℕ) (new old : A)
-      → number_of answer ≡ first_of (vector_lengths n (length o) (length cs) values diagonal flags flags) → k ≡ number_of answer → (k ≡ 0 → ⊥)
+  pub lengths_refuse : {A : Type 0} (answer : Answer) (new old : A)
+      → number_of answer ≡ first_of (vector_lengths n (length o) (length cs) values diagonal flags flags) → (number_of answer ≡ 0 → ⊥)
       → Ends (vector_checks n o cs values diagonal flags flags) answer new old old
-  lengths_refuse answer k new old first is other =
-      ends_earlier (vector_lengths n (length o) (length cs) values diagonal flags flags) ((3 when not (valid_pattern o cs)) ∷ []) answer k new old first is other
+  lengths_refuse answer new old first other =
+      ends_earlier (vector_lengths n (length o) (length cs) values diagonal flags flags) ((3 when not (valid_pattern o cs)) ∷ []) answer new old first other
 
   -- no length refuses
   module _ (zero_is : first_of (vector_lengths n (length o) (length cs) values diagonal flags flags) ≡ 0) where
@@ -54,9 +54,9 @@ module _ (n : ℕ) (o cs : List ℕ) (values diagonal flags : ℕ) where
         (checked.matrix_too n (length o) (length cs) values diagonal flags flags zero_is)
 
     pub pattern_refuses : {A : Type 0} (new old : A) → valid_pattern o cs ≡ false
-        → Ends (vector_checks n o cs values diagonal flags flags) (Refused Pattern) new old old
+        → Ends (vector_checks n o cs values diagonal flags flags) (Err Pattern) new old old
     pattern_refuses new old invalid =
-        ends_later (vector_lengths n (length o) (length cs) values diagonal flags flags) ((3 when not (valid_pattern o cs)) ∷ []) (Refused Pattern) new old old none
+        ends_later (vector_lengths n (length o) (length cs) values diagonal flags flags) ((3 when not (valid_pattern o cs)) ∷ []) (Err Pattern) new old old none
         (record { number = rw invalid; lent = rw invalid })
 
     -- nor does the pattern

@@ -2,8 +2,8 @@
 -- Assumes nothing.
 use mathlib.Core.Path.{◌≡◌, refl, sym, ap, ◌∙◌}
 use mathlib.Core.List.{List}
-use mathlib.Core.Bool.{Bool, true, false, cond, ◌||◌}
-use Prim.Native.Nat.{ℕ, ◌+◌, ◌-◌, ◌*◌, ◌/◌, ◌%◌}
+use mathlib.Core.Bool.{Bool, true, false, cond}
+use Prim.Native.Nat.{ℕ, ◌+◌, ◌-◌, ◌*◌}
 use lib.Dec.{eqb}
 use lib.IntN.{ℤ}
 use lib.ListN.{length, get_or, take, drop}
@@ -12,16 +12,10 @@ use Rattle.blocks.specs.Block.{element}
 use Rattle.blocks.specs.Lent.{block_at, put_at}
 use Rattle.lent.specs.Steps.{Within}
 use Rattle.matrix.proofs.FitLaws.{row_is}
-use Rattle.fixing.specs.Fixing.{is_fixed, diagonal_value, fixed_diagonal, entry_value, fixed_entry, fix_diagonal_at, fix_entry_at, fix_entries, fix_row}
-use Rattle.fixing.specs.Steps.{fixed_in, given, any_to}
-use Rattle.fixing.proofs.FlagLaws.{none_at, told_at}
-use Rattle.blocks.proofs.ListedLaws.{listed_same}
-use Rattle.fixing.proofs.BlockLaws.{row_below, column_below, block_same, put_back}
-
--- a value that a fixed row or column made +0 becomes valDia if it stands on the diagonal
-pub over_zero : (b : Bool) (v z x : Float) → cond b v (cond (b || b) z x) ≡ cond b v x
-over_zero true v z x = refl
-over_zero false v z x = refl
+use Rattle.fixing.specs.Fixing.{diagonal_value, fixed_diagonal, entry_value, fixed_entry, fix_diagonal_at, fix_entry_at, fix_entries, fix_row}
+use Rattle.fixing.specs.Steps.{any_to}
+use Rattle.fixing.proofs.FlagLaws.{none_at}
+use Rattle.fixing.proofs.BlockLaws.{block_same, put_back}
 
 -- either way the same
 either : (b : Bool) (x : Float) → cond b x x ≡ x
@@ -61,36 +55,6 @@ module _ (f : Format) (n : ℕ) where
   unfolding fix_diagonal_at
   joined_diagonal valDia fixed i diagonal a new z read made written =
       written ∙ ap (λ (b : List Float). put_at (n * n * i) b diagonal) (made ∙ ap (fixed_diagonal f n valDia fixed) read)
-
-  -- what is fixed was read out of the flags
-  pub known_entry : (flags : List ℤ) (i j e : ℕ) (values z : List Float) (row column : List Bool) → row ≡ fixed_in n flags i → column ≡ fixed_in n flags j
-      → z ≡ fix_entry_at f n (given row) (given column) e values → z ≡ fix_entry_at f n (is_fixed n flags i) (is_fixed n flags j) e values
-  unfolding fix_entry_at
-  known_entry flags i j e values z row column here there made =
-      let p = is_fixed n flags i in
-      let q = is_fixed n flags j in
-      let a = block_at n values e in
-      let same : fixed_entry f n (given (fixed_in n flags i)) (given (fixed_in n flags j)) a ≡ fixed_entry f n p q a =
-      listed_same (n * n) (λ k. entry_value f (given (fixed_in n flags i)) (given (fixed_in n flags j)) (k % n) (k / n) (element n a (k % n) (k / n)))
-      (λ k. entry_value f p q (k % n) (k / n) (element n a (k % n) (k / n)))
-      (λ k l. rw (told_at p n (k % n) (row_below n k l), told_at q n (k / n) (column_below n k l))) in
-      made
-      ∙ ap (λ (b : List Float). put_at (n * n * e) b values)
-      (ap (λ (l : List Bool). fixed_entry f n (given l) (given column) a) here ∙ ap (λ (l : List Bool). fixed_entry f n (given (fixed_in n flags i)) (given l) a) there ∙ same)
-
-  pub known_diagonal : (flags : List ℤ) (valDia : Float) (i : ℕ) (diagonal z : List Float) (fixed : List Bool) → fixed ≡ fixed_in n flags i
-      → z ≡ fix_diagonal_at f n valDia (given fixed) i diagonal → z ≡ fix_diagonal_at f n valDia (is_fixed n flags i) i diagonal
-  unfolding fix_diagonal_at
-  known_diagonal flags valDia i diagonal z fixed here made =
-      let p = is_fixed n flags i in
-      let told = given (fixed_in n flags i) in
-      let a = block_at n diagonal i in
-      let same : fixed_diagonal f n valDia told a ≡ fixed_diagonal f n valDia p a =
-      listed_same (n * n)
-      (λ k. diagonal_value f valDia told (k % n) (k / n) (element n a (k % n) (k / n)))
-      (λ k. diagonal_value f valDia p (k % n) (k / n) (element n a (k % n) (k / n)))
-      (λ k l. rw (told_at p n (k % n) (row_below n k l), told_at p n (k / n) (column_below n k l))) in
-      made ∙ ap (λ (b : List Float). put_at (n * n * i) b diagonal) (ap (λ (l : List Bool). fixed_diagonal f n valDia (given l) a) here ∙ same)
 
   -- a row, from the part of the columns that is handed on
   pub joined_row : (flags : List ℤ) (o cs : List ℕ) (i a b : ℕ) (values z : List Float) → a ≡ get_or o i 0 → b ≡ get_or o (i + 1) 0

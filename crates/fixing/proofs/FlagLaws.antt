@@ -1,38 +1,23 @@
 -- A flag as the machine holds it: its bits are other than 0 exactly if it fixes. And what it means that no flag of a row does.
 -- Assumes nothing.
-use mathlib.Core.Path.{◌≡◌, refl, ap, ◌∙◌}
-use mathlib.Core.List.{[], ◌∷◌}
+use mathlib.Core.Path.{◌≡◌, refl, ap}
 use mathlib.Core.Logic.{⊎_elim}
 use mathlib.Core.Bool.{Bool, false, not}
 use Prim.Native.Nat.{ℕ, zero, suc, ◌<◌}
 use native.Mathlib.Nat.{not-suc-le-zero, le_of_suc-le-suc, eq-or-lt_of_le}
 use native.Mathlib.Omega.{arith}
 use lib.Dec.{eqb}
-use lib.ListN.{length, length-append, get_or-append}
-use lib.Seq.{get_or_at}
 use lib.IntN.{ℤ, pos, negsuc}
 use borrow.Author.Tests.{ne_eqb}
 use mir.Syntax.{w32}
 use mir.Val.{of_z, SFits}
 use Rattle.base.proofs.All.{or_left, or_right}
 use Rattle.vectors.specs.Vectors.{fixes}
-use Rattle.fixing.specs.Steps.{told, given, any_to}
+use Rattle.fixing.specs.Steps.{any_to}
 
 pub bits_fix : (flag : ℤ) → SFits w32 flag → not (eqb (of_z w32 flag) 0) ≡ fixes flag
 bits_fix (pos m) small = refl
 bits_fix (negsuc m) small = ap not (ne_eqb (of_z w32 (negsuc m)) 0 (λ zero_is. absurd (omega (arith, small.sfits, zero_is))))
-
--- the answers that were listed
-length_told : (p : ℕ → Bool) (m : ℕ) → length (told m p) ≡ m
-length_told p zero = refl
-length_told p (suc m) = omega (arith, length-append (told m p) (p m ∷ []), length_told p m)
-
-pub told_at : (p : ℕ → Bool) (m r : ℕ) → r < m → given (told m p) r ≡ p r
-told_at p zero r below = absurd (not-suc-le-zero below)
-told_at p (suc m) r below =
-    ⊎_elim (λ e. rw e (get_or_at (told m p) (p m) [] false m (length_told p m)))
-    (λ l. get_or-append (told m p) (p m ∷ []) false r (rw (length_told p m) l) ∙ told_at p m r l)
-    (eq-or-lt_of_le (le_of_suc-le-suc below))
 
 -- none of those below m is
 pub none_at : (p : ℕ → Bool) (m : ℕ) → any_to m p ≡ false → (r : ℕ) → r < m → p r ≡ false

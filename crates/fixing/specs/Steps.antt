@@ -1,20 +1,6 @@
--- The flags of a row by value, and what the functions of the crate that check nothing ask of lengths. No public promise cites these.
+-- A test of the values of a row, and what the functions of the crate that check nothing ask of lengths. No public promise cites these.
 -- Definitions only.
-use Rattle.std.specs.Prelude.{List, [], ◌∷◌, ◌++◌, Bool, false, ◌||◌, ℕ, zero, suc, ◌+◌, ◌*◌, ◌≤◌, ◌<◌, ℤ, length, get_or}
-use Rattle.fixing.specs.Fixing.{is_fixed}
-
--- the m answers p 0, p 1, .., p (m - 1)
-abbrev pub told : ℕ → (ℕ → Bool) → List Bool
-told zero p = []
-told (suc m) p = told m p ++ (p m ∷ [])
-
--- which values of row i are fixed
-abbrev pub fixed_in : ℕ → List ℤ → ℕ → List Bool
-fixed_in n flags i = told n (is_fixed n flags i)
-
--- value r, of the values of a row
-abbrev pub given : List Bool → ℕ → Bool
-given row r = get_or row r false
+use Rattle.std.specs.Prelude.{List, Bool, false, ◌||◌, ℕ, zero, suc, ◌+◌, ◌*◌, ◌≤◌, ◌<◌, length, get_or}
 
 -- p holds at one of 0, 1, .., m - 1
 abbrev pub any_to : ℕ → (ℕ → Bool) → Bool

@@ -179,16 +179,13 @@ pub fn set_zero(
         (bytes_of binary64 (zeroed binary64 (values_in binary64 values.old)), bytes_of binary64 (zeroed binary64 (values_in binary64 diagonal.old)))
         (values.old, diagonal.old) (values.new, diagonal.new) }
 {
-    let answer = check_matrix_bytes(
+    check_matrix_bytes(
         dim,
         offsets.len(),
         columns.len(),
         values.len(),
         diagonal.len(),
-    );
-    if answer.number() != 0 {
-        return answer;
-    }
+    )?;
     let none = [0u8; 1];
     let op = Operation::SetZero;
     if is_many(offsets.len(), columns.len()) {
@@ -215,7 +212,7 @@ pub fn set_fixed_bc(
         (diagonal.old, values.old) (diagonal.new, values.new) }
 {
     let broken = is_broken_index(flags.len());
-    let answer = check_vector_bytes(
+    check_vector_bytes(
         dim,
         offsets.len(),
         columns.len(),
@@ -224,10 +221,7 @@ pub fn set_fixed_bc(
         broken,
         flags.len() / 4,
         flags.len() / 4,
-    );
-    if answer.number() != 0 {
-        return answer;
-    }
+    )?;
     let op = Operation::SetFixedBc;
     if is_many(offsets.len(), columns.len()) {
         return write_in_full_room(values, diagonal, op, dim, val_dia, flags, offsets, columns);

@@ -9,9 +9,9 @@ use native.Mathlib.Omega.{arith}
 use lib.Dec.{ltb}
 use lib.ListN.{length, take, drop, replicate}
 use borrow.Author.Tests.{ltb-false, lt-ltb, le-ltb}
+use Rattle.std.specs.Prelude.{Ok, Err}
 use Rattle.base.proofs.All.{or_left, or_right}
 use Rattle.answers.specs.declared.Refusal.TheVariants.{Size, Shape, Room}
-use Rattle.answers.specs.declared.Answer.TheVariants.{Done, Refused}
 use Rattle.answers.specs.Limits.{rows_out_of_range}
 use Rattle.fill.specs.Promise.{wrong_outputs}
 use Rattle.fill.proofs.OutputLaws.{outputs_are}
@@ -31,16 +31,16 @@ pub few_entries : (n : ℕ) → n ≤ 4096 → n * (n - 1) ≤ 16777216
 few_entries n h = let m : n - 1 ≤ 4096 = omega arith in omega (arith, mul-le-mul_left n m)
 
 module _ (n : ℕ) (o cs ss : List ℕ) where
-  pub wrong_size : rows_out_of_range n ≡ true → Complete n o cs ss (Refused Size) o cs ss
+  pub wrong_size : rows_out_of_range n ≡ true → Complete n o cs ss (Err Size) o cs ss
   wrong_size a = record { number = rw a; offsets_are = refl; columns_are = refl; splits_are = refl }
 
   module _ (a : rows_out_of_range n ≡ false) where
-    pub wrong_shape_lem : wrong_outputs n (length o) (length cs) (length ss) ≡ true → Complete n o cs ss (Refused Shape) o cs ss
+    pub wrong_shape_lem : wrong_outputs n (length o) (length cs) (length ss) ≡ true → Complete n o cs ss (Err Shape) o cs ss
     wrong_shape_lem b = record { number = rw (a, b); offsets_are = refl; columns_are = refl; splits_are = refl }
 
     module _ (b : wrong_outputs n (length o) (length cs) (length ss) ≡ false) where
       pub no_room : (o' cs' ss' : List ℕ) → length cs < n * (n - 1) → o' ≡ replicate (length o) 0 → cs' ≡ replicate (length cs) 0 → ss' ≡ replicate (length ss) 0
-          → Complete n o cs ss (Refused Room) o' cs' ss'
+          → Complete n o cs ss (Err Room) o' cs' ss'
       no_room o' cs' ss' d eo ec es = record { number = rw (a, b, lt-ltb _ _ d); offsets_are = eo; columns_are = ec; splits_are = es }
 
       module _ (d : n * (n - 1) ≤ length cs) where
@@ -60,7 +60,7 @@ module _ (n : ℕ) (o cs ss : List ℕ) where
         pub all_done : (o' cs₁ ss' t cs' : List ℕ) → Rows n cs o' cs₁ ss'
             → t ≡ replicate (length (take (length cs₁ - n * (n - 1)) (drop (n * (n - 1)) cs₁))) 0
             → cs' ≡ take (n * (n - 1)) cs₁ ++ (t ++ drop (length cs₁ - n * (n - 1)) (drop (n * (n - 1)) cs₁))
-            → Complete n o cs ss Done o' cs' ss'
+            → Complete n o cs ss (Ok tt) o' cs' ss'
         all_done o' cs₁ ss' t cs' R et ec =
             let long : length (full_columns n n) ≡ n * (n - 1) = length_full n n (omega arith) in
             let behind : cs' ≡ full_columns n n ++ replicate (length cs - length (full_columns n n)) 0 =

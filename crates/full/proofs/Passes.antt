@@ -9,8 +9,8 @@ use lib.Dec.{ltb}
 use lib.ListN.{length, get_or, take, replicate, length-append, get_or-append}
 use lib.Seq.{take_at, get_or-append-add}
 use borrow.Author.Tests.{ltb-false}
+use Rattle.std.specs.Prelude.{Ok}
 use Rattle.base.proofs.All.{or_left, or_right}
-use Rattle.answers.specs.declared.Answer.TheVariants.{Done}
 use Rattle.answers.specs.Checks.{first_of}
 use Rattle.patterns.specs.Pattern.{split_of}
 use Rattle.patterns.specs.Checks.{factor_checks}
@@ -105,7 +105,7 @@ module _ (n : ℕ) where
       joined_passes (others n) n (full_offsets n) full_starts others_row (full_splits n) full_split least few (omega (arith, length_full n (omega arith), room))
       (length_listed (λ i. i * n) 0 n)
 
-module _ (n : ℕ) (offsets columns splits offsets' columns' splits' : List ℕ) (C : Complete n offsets columns splits Done offsets' columns' splits') where
+module _ (n : ℕ) (offsets columns splits offsets' columns' splits' : List ℕ) (C : Complete n offsets columns splits (Ok tt) offsets' columns' splits') where
   -- the columns up to the last offset: past them the room is clear
   pub done_columns : take (get_or offsets' n 0) columns' ≡ full_columns n n
   unfolding full_offsets full_columns

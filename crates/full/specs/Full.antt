@@ -1,7 +1,7 @@
 -- The promise of `initialize_full`: "all other columns, offset i*(n-1), split i*n". Its number, and every lent word afterwards.
 -- Definitions only.
+use Rattle.answers.specs.Numbers.{Answer}
 use Rattle.std.specs.Prelude.{◌≡◌, List, [], ◌∷◌, ◌++◌, ℕ, suc, ◌+◌, ◌-◌, ◌*◌, ltb, length, replicate}
-use Rattle.answers.specs.declared.Answer.{Answer}
 use Rattle.answers.specs.Numbers.{number_of}
 use Rattle.answers.specs.Checks.{Check, ◌when◌, first_of}
 use Rattle.answers.specs.Limits.{rows_out_of_range}

@@ -21,19 +21,19 @@ pub fn initialize_full(
 {
     let rows = n as usize;
     if Rows(rows).out_of_range() {
-        return Answer::Refused(Refusal::Size);
+        return Err(Refusal::Size);
     }
     if is_wrong_output(rows, offsets.len(), columns.len(), splits.len()) {
-        return Answer::Refused(Refusal::Shape);
+        return Err(Refusal::Shape);
     }
     let all = rows * (rows - 1);
     if columns.len() < all {
         clear(offsets);
         clear(columns);
         clear(splits);
-        return Answer::Refused(Refusal::Room);
+        return Err(Refusal::Room);
     }
     write_rows(offsets, columns, splits, rows);
     clear(&mut columns[all..]);
-    Answer::Done
+    Ok(())
 }

@@ -1,7 +1,6 @@
 -- The checks of the plain solver: what holds when none refuses.
 -- Assumes nothing.
 use mathlib.Core.Path.{◌≡◌, refl}
-use mathlib.Core.List.{List}
 use mathlib.Core.Bool.{Bool, true, false, not, ◌&&◌, ◌||◌}
 use Prim.Native.Nat.{ℕ, ◌-◌, ◌*◌, ◌≤◌}
 use lib.Dec.{eqb, ltb}

@@ -1,17 +1,16 @@
 -- The loop of the plain method: what each turn finds, and what it leaves.
 -- Assumes nothing.
 use mathlib.Core.Path.{◌≡◌, refl, sym, ap, ◌∙◌}
-use mathlib.Core.List.{List, [], ◌∷◌, ◌++◌}
+use mathlib.Core.List.{List, [], ◌∷◌}
 use mathlib.Core.Bool.{true, false}
-use Prim.Native.Nat.{ℕ, ◌+◌, ◌-◌, ◌≤◌, ◌<◌}
+use Prim.Native.Nat.{ℕ, ◌+◌, ◌≤◌, ◌<◌}
 use native.Mathlib.Omega.{arith}
 use lib.ListN.{length, set, length-set, length-append}
 use lib.Ieee.{Float, binary64, mul, div, lt}
 use Rattle.vectors.specs.Vectors.{scale_add}
 use Rattle.root.specs.Sqrt.{sqrt}
-use Rattle.solvers.specs.Method.{Matrix, State, state_of, moved, squared, ratio, Method, Run, run}
+use Rattle.solvers.specs.Method.{Matrix, State, state_of, moved, ratio, run}
 use Rattle.solvers.specs.Solvers.{is_settled, turned, plain}
-use Rattle.solvers.specs.Promise.{over}
 use Rattle.advancing.specs.Steps.{Ready, Advanced, Leaves}
 use Rattle.advancing.proofs.StepLaws.{ready_same}
 use Rattle.advancing.proofs.OverLaws.{over_none}

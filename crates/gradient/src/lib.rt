@@ -1,4 +1,4 @@
-// Document 01's `conjugate_gradient`, each call checked, for N = 1, 2, 3.
+// Document 01's `conjugate_gradient`, each call checked, at each size.
 // r is the right side and becomes the residual, u becomes the solution. A call that refuses changes nothing.
 #![tactic(auto)]
 
@@ -6,15 +6,15 @@ pub mod unchecked;
 
 ghost use Rattle.std.specs.Prelude.{◌≡◌, ◌≤◌, length, take};
 ghost use Rattle.std.specs.Float.{binary64};
-ghost use Rattle.lent.specs.Steps.{Dim};
 ghost use Rattle.solvers.specs.Method.{matrix_of};
 ghost use Rattle.solvers.specs.Promise.{lent_of};
 ghost use Rattle.gradient.specs.Answers.{solution_of, PlainSolves};
 
 use advancing::unchecked::last_number;
 use answers::Answer;
-use solvers::{Solution, Solve, Verdict};
-use unchecked::{check_plain, conjugate_gradient};
+use blocks::Size;
+use solvers::{Solution, Verdict};
+use unchecked::check_plain;
 
 // The answer, from how many ratios were written to the history.
 fn plain_solution(history: &[f64], count: usize, tolerance: f64) -> Solution
@@ -30,28 +30,25 @@ fn plain_solution(history: &[f64], count: usize, tolerance: f64) -> Solution
     }
 }
 
-// The checks, then the work.
-fn conjugate_gradient_checked(
+// u becomes what A and the right side r solve to, in at most `limit` steps: the count of ratios, the last of them, and the verdict.
+pub fn conjugate_gradient<S: Size>(
     r: &mut [f64],
     u: &mut [f64],
     ap: &mut [f64],
     p: &mut [f64],
-    history: &mut [f64],
-    dim: usize,
+    tolerance: f64,
+    limit: u32,
     offsets: &[u32],
     columns: &[u32],
     values: &[f64],
     diagonal: &[f64],
-    tolerance: f64,
-    limit: u32,
-) -> Solve
-    requires { Dim dim }
-    ensures { PlainSolves dim limit (matrix_of offsets.now columns.now values.now diagonal.now) tolerance
+    history: &mut [f64],
+) -> Answer<Solution>
+    ensures { PlainSolves S.DIM limit (matrix_of offsets.now columns.now values.now diagonal.now) tolerance
         (lent_of r.old u.old ap.old p.old history.old) result (lent_of r.new u.new ap.new p.new history.new) }
 {
     let most = limit as usize;
-    match check_plain(
-        dim,
+    check_plain::<S>(
         most,
         offsets,
         columns,
@@ -62,77 +59,9 @@ fn conjugate_gradient_checked(
         ap.len(),
         p.len(),
         history.len(),
-    ) {
-        Answer::Done => {
-            let count = conjugate_gradient(
-                r, u, ap, p, history, dim, offsets, columns, values, diagonal, tolerance, most,
-            );
-            Solve::Ended(plain_solution(history, count, tolerance))
-        }
-        Answer::Refused(why) => Solve::Refused(why),
-    }
-}
-
-// u becomes what A and the right side r solve to, in at most `limit` steps: the count of ratios, the last of them, and the verdict.
-pub fn conjugate_gradient_1(
-    r: &mut [f64],
-    u: &mut [f64],
-    ap: &mut [f64],
-    p: &mut [f64],
-    tolerance: f64,
-    limit: u32,
-    offsets: &[u32],
-    columns: &[u32],
-    values: &[f64],
-    diagonal: &[f64],
-    history: &mut [f64],
-) -> Solve
-    ensures { PlainSolves 1 limit (matrix_of offsets.now columns.now values.now diagonal.now) tolerance
-        (lent_of r.old u.old ap.old p.old history.old) result (lent_of r.new u.new ap.new p.new history.new) }
-{
-    conjugate_gradient_checked(
-        r, u, ap, p, history, 1, offsets, columns, values, diagonal, tolerance, limit,
-    )
-}
-
-pub fn conjugate_gradient_2(
-    r: &mut [f64],
-    u: &mut [f64],
-    ap: &mut [f64],
-    p: &mut [f64],
-    tolerance: f64,
-    limit: u32,
-    offsets: &[u32],
-    columns: &[u32],
-    values: &[f64],
-    diagonal: &[f64],
-    history: &mut [f64],
-) -> Solve
-    ensures { PlainSolves 2 limit (matrix_of offsets.now columns.now values.now diagonal.now) tolerance
-        (lent_of r.old u.old ap.old p.old history.old) result (lent_of r.new u.new ap.new p.new history.new) }
-{
-    conjugate_gradient_checked(
-        r, u, ap, p, history, 2, offsets, columns, values, diagonal, tolerance, limit,
-    )
-}
-
-pub fn conjugate_gradient_3(
-    r: &mut [f64],
-    u: &mut [f64],
-    ap: &mut [f64],
-    p: &mut [f64],
-    tolerance: f64,
-    limit: u32,
-    offsets: &[u32],
-    columns: &[u32],
-    values: &[f64],
-    diagonal: &[f64],
-    history: &mut [f64],
-) -> Solve
-    ensures { PlainSolves 3 limit (matrix_of offsets.now columns.now values.now diagonal.now) tolerance
-        (lent_of r.old u.old ap.old p.old history.old) result (lent_of r.new u.new ap.new p.new history.new) }
-{
-    conjugate_gradient_checked(
-        r, u, ap, p, history, 3, offsets, columns, values, diagonal, tolerance, limit,
-    )
+    )?;
+    let count = unchecked::conjugate_gradient::<S>(
+        r, u, ap, p, history, offsets, columns, values, diagonal, tolerance, most,
+    );
+    Ok(plain_solution(history, count, tolerance))
 }

@@ -9,18 +9,17 @@ use lib.Dec.{ltb}
 use lib.ListN.{length}
 use lib.Ieee.{binary64}
 use borrow.Author.Tests.{le-ltb}
+use Rattle.std.specs.Prelude.{Ok, Err}
+use Rattle.answers.specs.Numbers.{Answer, AnswerOf}
 use Rattle.answers.specs.declared.Refusal.{Refusal}
-use Rattle.answers.specs.declared.Answer.{Answer}
-use Rattle.answers.specs.declared.Answer as Answers
 use Rattle.answers.specs.Numbers.{number_of, refusal_number}
 use Rattle.answers.specs.Checks.{◌when◌, first_of}
 use Rattle.answers.specs.Limits.{iterations_out_of_range}
+use Rattle.answers.proofs.SameAnswer.{refusal_counts}
 use Rattle.answers.proofs.EndLaws.{none_of_zero}
 use Rattle.patterns.specs.Checks.{too_large}
 use Rattle.matrix.specs.Checks.{wrong_values, matrix_lengths}
 use Rattle.solvers.specs.declared.Solution.{Solution}
-use Rattle.solvers.specs.declared.Solve.{Solve}
-use Rattle.solvers.specs.declared.Solve.TheVariants.{Refused}
 use Rattle.solvers.specs.Checks.{wrong_vectors, plain_lengths}
 use Rattle.solve_outcomes.specs.Ends.{early_checks, SolveEnds}
 use Rattle.solve_outcomes.proofs.EndLaws.{solve_earlier, solve_later}
@@ -34,7 +33,7 @@ use Rattle.matrix_bytes.proofs.CheckLaws.{range_of, in_full, full_words}
 use Rattle.solver_bytes.specs.Lent.{LentBytes}
 use Rattle.solver_bytes.specs.Checks.{broken_vectors}
 use Rattle.solver_bytes.specs.Rooms.{HeldVectors}
-use Rattle.solver_bytes.proofs.VectorLaws.{held_vectors, limit_most, not_zero}
+use Rattle.solver_bytes.proofs.VectorLaws.{held_vectors, limit_most}
 use Rattle.gradient_bytes.specs.Checks.{misshapen_plain, plain_byte_checks}
 use Rattle.gradient_bytes.specs.Rooms.{PlainPassed, pattern_rule}
 
@@ -99,11 +98,11 @@ plain_in_room dim limit o cs v d r u ap p h zero_is =
 
 -- ---- the ends of the call: its lengths refuse it, or its words decide
 
-module _ (dim limit : ℕ) (o cs v d : List ℕ) (old : LentBytes) (solution : Solution) (answer : Answer) (new left : LentBytes)
-    (first : number_of answer ≡ first_of (early_checks (too_large (length o / 4) (length cs / 4)) limit
+module _ (dim limit : ℕ) (o cs v d : List ℕ) (old : LentBytes) (solution : Solution) (new left : LentBytes) (number : ℕ)
+    (first : number ≡ first_of (early_checks (too_large (length o / 4) (length cs / 4)) limit
     (misshapen_plain dim (length o) (length cs) (length v) (length d) (length old.r) (length old.x) (length old.q) (length old.p) (length old.history))
     ++ plain_lengths dim limit (length o / 4) (length cs / 4) (length v / 8) (length d / 8) (length old.r / 8) (length old.x / 8) (length old.q / 8) (length old.p / 8) (length old.history / 8))) where
-  told : number_of answer ≡ first_of (early_checks (too_large (length o / 4) (length cs / 4)) limit
+  told : number ≡ first_of (early_checks (too_large (length o / 4) (length cs / 4)) limit
       (misshapen_plain dim (length o) (length cs) (length v) (length d) (length old.r) (length old.x) (length old.q) (length old.p) (length old.history))
       ++ plain_lengths dim limit (length (indexes_in o)) (length (indexes_in cs)) (length (values_in binary64 v)) (length (values_in binary64 d)) (length (values_in binary64 old.r))
       (length (values_in binary64 old.x)) (length (values_in binary64 old.q)) (length (values_in binary64 old.p)) (length (values_in binary64 old.history)))
@@ -120,19 +119,19 @@ module _ (dim limit : ℕ) (o cs v d : List ℕ) (old : LentBytes) (solution : S
         length_values binary64 old.history,
       ) first
 
-  pub plain_refuses : (why : Refusal) → answer ≡ Answers.TheVariants.Refused why → SolveEnds {A = LentBytes} (plain_byte_checks dim limit o cs v d old) solution (Refused why) new old old
-  plain_refuses why is =
-      let number_is = sym (ap number_of is) ∙ told in
-      solve_earlier (early_checks (too_large (length o / 4) (length cs / 4)) limit
+  pub plain_refuses : (result : AnswerOf Solution) (why : Refusal) → result ≡ Err why → refusal_number why ≡ number → SolveEnds {A = LentBytes} (plain_byte_checks dim limit o cs v d old) solution result new old old
+  plain_refuses result why is same =
+      let number_is = same ∙ told in
+      rw is (solve_earlier (early_checks (too_large (length o / 4) (length cs / 4)) limit
       (misshapen_plain dim (length o) (length cs) (length v) (length d) (length old.r) (length old.x) (length old.q) (length old.p) (length old.history))
       ++ plain_lengths dim limit (length (indexes_in o)) (length (indexes_in cs)) (length (values_in binary64 v)) (length (values_in binary64 d)) (length (values_in binary64 old.r))
       (length (values_in binary64 old.x)) (length (values_in binary64 old.q)) (length (values_in binary64 old.p)) (length (values_in binary64 old.history)))
-      (pattern_rule (indexes_in o) (indexes_in cs)) solution why new old number_is (λ z. not_zero why (number_is ∙ z))
+      (pattern_rule (indexes_in o) (indexes_in cs)) solution why new old number_is (λ z. refusal_counts why (number_is ∙ z)))
 
-  pub plain_decides : (result : Solve) → answer ≡ Answers.TheVariants.Done → SolveEnds {A = LentBytes} (pattern_rule (indexes_in o) (indexes_in cs)) solution result new old left
+  pub plain_decides : (result : AnswerOf Solution) → 0 ≡ number → SolveEnds {A = LentBytes} (pattern_rule (indexes_in o) (indexes_in cs)) solution result new old left
       → SolveEnds {A = LentBytes} (plain_byte_checks dim limit o cs v d old) solution result new old left
   plain_decides result is end =
-      let zero_is = sym (sym (ap number_of is) ∙ told) in
+      let zero_is = sym (is ∙ told) in
       let checks = early_checks (too_large (length o / 4) (length cs / 4)) limit
       (misshapen_plain dim (length o) (length cs) (length v) (length d) (length old.r) (length old.x) (length old.q) (length old.p) (length old.history))
       ++ plain_lengths dim limit (length (indexes_in o)) (length (indexes_in cs)) (length (values_in binary64 v)) (length (values_in binary64 d)) (length (values_in binary64 old.r))

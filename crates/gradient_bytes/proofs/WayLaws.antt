@@ -6,10 +6,11 @@ use mathlib.Core.Bool.{Bool, true, false}
 use Prim.Native.Nat.{ℕ, ◌-◌, ◌/◌, ◌≤◌}
 use lib.ListN.{length}
 use lib.Ieee.{Float, binary64}
+use Rattle.solvers.specs.declared.Solution.{Solution}
+use Rattle.answers.specs.Numbers.{AnswerOf}
 use Rattle.answers.specs.Checks.{◌when◌, none_holds}
 use Rattle.answers.specs.Limits.{outside_of, iterations_out_of_range}
 use Rattle.patterns.specs.Checks.{too_large}
-use Rattle.solvers.specs.declared.Solve.{Solve}
 use Rattle.solvers.specs.Method.{matrix_of}
 use Rattle.solvers.specs.Checks.{wrong_plain, plain_lengths}
 use Rattle.solvers.specs.Promise.{Lent, lent_of, left_by}
@@ -31,7 +32,7 @@ none_holds_lem true far outside wrong inside passed = passed
 none_holds_lem false true outside wrong inside passed = passed
 none_holds_lem false false outside wrong inside passed = rw inside passed
 
-module _ (dim limit : ℕ) (tolerance : Float) (offs cols : List ℕ) (vals diag : List Float) (old : LentBytes) (residual solution product direction numbers : List Float) (result : Solve) (left : Lent)
+module _ (dim limit : ℕ) (tolerance : Float) (offs cols : List ℕ) (vals diag : List Float) (old : LentBytes) (residual solution product direction numbers : List Float) (result : AnswerOf Solution) (left : Lent)
     (end : SolveEnds {A = Lent} (plain_call_checks dim limit (matrix_of offs cols vals diag) (lent_of residual solution product direction numbers))
     (solution_of binary64 tolerance (plain_run dim limit (matrix_of offs cols vals diag) tolerance (lent_of residual solution product direction numbers)).history) result
     (left_by (plain_run dim limit (matrix_of offs cols vals diag) tolerance (lent_of residual solution product direction numbers)) numbers) (lent_of residual solution product direction numbers) left) where
@@ -65,7 +66,7 @@ pub passed_at : (dim limit o c v d o' c' v' d' r u ap p : ℕ) → o ≡ o' → 
 passed_at dim limit o c v d o' c' v' d' r u ap p eo ec ev ed passed = rw (eo, ec, ev, ed) passed
 
 -- the words of the matrix are those that its bytes hold
-pub of_bytes_lem : (dim limit : ℕ) (tolerance : Float) (o c v d : List ℕ) (offs cols : List ℕ) (vals diag : List Float) (old : LentBytes) (result : Solve) (left : LentBytes)
+pub of_bytes_lem : (dim limit : ℕ) (tolerance : Float) (o c v d : List ℕ) (offs cols : List ℕ) (vals diag : List Float) (old : LentBytes) (result : AnswerOf Solution) (left : LentBytes)
     → offs ≡ indexes_in o → cols ≡ indexes_in c → vals ≡ values_in binary64 v → diag ≡ values_in binary64 d
     → SolveEnds {A = LentBytes} (pattern_rule offs cols) (solution_of binary64 tolerance (plain_run dim limit (matrix_of offs cols vals diag) tolerance (words_lent binary64 old)).history) result
     (bytes_left_by binary64 (plain_run dim limit (matrix_of offs cols vals diag) tolerance (words_lent binary64 old)) old.history) old left

@@ -15,12 +15,12 @@ ghost use Rattle.solve_outcomes.specs.Ends.{early_checks, SolveEnds};
 ghost use Rattle.solver_bytes.specs.Lent.{LentBytes, bytes_lent, words_lent, matrix_in, bytes_left_by};
 ghost use Rattle.gradient_bytes.specs.Checks.{misshapen_plain, plain_byte_checks};
 
-use advancing::unchecked::are_wrong_vectors;
 use answers::{Answer, Iterations, Refusal};
 use matrix_bytes::check_matrix_bytes;
 use patterns::is_too_large;
 use solver_bytes::are_broken_vectors;
-use solvers::Solve;
+use solver_bytes::unchecked::are_wrong_vectors;
+use solvers::Solution;
 use unchecked::solve_in_room;
 
 // Whether 2 applies, by the lengths of the bytes of a pattern that is not too large.
@@ -41,14 +41,14 @@ fn is_wrong(
     ensures { result ≡ misshapen_plain dim offsets columns values diagonal r u ap p history
         || wrong_plain dim limit (offsets / 4 - 1) (columns / 4) (values / 8) (diagonal / 8) (r / 8) (u / 8) (ap / 8) (p / 8) (history / 8) }
 {
-    if check_matrix_bytes(dim, offsets, columns, values, diagonal).number() != 0 {
+    if check_matrix_bytes(dim, offsets, columns, values, diagonal).is_err() {
         return true;
     }
     if are_broken_vectors(r, u, ap, p, history) {
         return true;
     }
     let rows = offsets / 4 - 1;
-    if are_wrong_vectors(dim as usize, rows, r / 8, u / 8, ap / 8, p / 8) {
+    if are_wrong_vectors(dim, rows, r / 8, u / 8, ap / 8, p / 8) {
         return true;
     }
     history / 8 < limit as usize
@@ -72,17 +72,17 @@ fn check_plain_bytes(
         ++ plain_lengths dim limit (offsets / 4) (columns / 4) (values / 8) (diagonal / 8) (r / 8) (u / 8) (ap / 8) (p / 8) (history / 8)) }
 {
     if is_too_large(offsets / 4, columns / 4) {
-        return Answer::Refused(Refusal::Size);
+        return Err(Refusal::Size);
     }
     if Iterations(limit as usize).out_of_range() {
-        return Answer::Refused(Refusal::Limit);
+        return Err(Refusal::Limit);
     }
     if is_wrong(
         dim, limit, offsets, columns, values, diagonal, r, u, ap, p, history,
     ) {
-        return Answer::Refused(Refusal::Shape);
+        return Err(Refusal::Shape);
     }
-    Answer::Done
+    Ok(())
 }
 
 // u becomes what A and the right side r solve to, in at most `limit` steps: the count of ratios, the last of them, and the verdict.
@@ -99,13 +99,13 @@ pub fn conjugate_gradient(
     values: &[u8],
     diagonal: &[u8],
     history: &mut [u8],
-) -> Solve
+) -> Answer<Solution>
     ensures { SolveEnds {A = LentBytes} (plain_byte_checks dim limit offsets.now columns.now values.now diagonal.now (bytes_lent r.old u.old ap.old p.old history.old))
         (solution_of binary64 tolerance (plain_run dim limit (matrix_in binary64 offsets.now columns.now values.now diagonal.now) tolerance (words_lent binary64 (bytes_lent r.old u.old ap.old p.old history.old))).history) result
         (bytes_left_by binary64 (plain_run dim limit (matrix_in binary64 offsets.now columns.now values.now diagonal.now) tolerance (words_lent binary64 (bytes_lent r.old u.old ap.old p.old history.old))) history.old)
         (bytes_lent r.old u.old ap.old p.old history.old) (bytes_lent r.new u.new ap.new p.new history.new) }
 {
-    match check_plain_bytes(
+    check_plain_bytes(
         dim,
         limit,
         offsets.len(),
@@ -117,10 +117,8 @@ pub fn conjugate_gradient(
         ap.len(),
         p.len(),
         history.len(),
-    ) {
-        Answer::Done => solve_in_room(
-            r, u, ap, p, history, dim, tolerance, limit, offsets, columns, values, diagonal,
-        ),
-        Answer::Refused(why) => Solve::Refused(why),
-    }
+    )?;
+    solve_in_room(
+        r, u, ap, p, history, dim, tolerance, limit, offsets, columns, values, diagonal,
+    )
 }

@@ -11,11 +11,12 @@ ghost use Rattle.solver_bytes.specs.Lent.{LentBytes, bytes_lent, words_lent, mat
 ghost use Rattle.solver_bytes.specs.Rooms.{HeldVectors, FilledVectors};
 ghost use Rattle.gradient_bytes.specs.Rooms.{PlainPassed, pattern_rule};
 
+use answers::Answer;
 use matrix_bytes::unchecked::decode_both;
 use numbered_gradient::conjugate_gradient;
 use pattern_bytes::unchecked::decode_pattern;
 use solver_bytes::unchecked::{decode_vectors, write_back};
-use solvers::Solve;
+use solvers::Solution;
 
 // With the words of the matrix, in room that is lent for those of the vectors and for the numbers of the history.
 fn solve_vectors(
@@ -36,7 +37,7 @@ fn solve_vectors(
     cols: &[u32],
     vals: &[f64],
     diag: &[f64],
-) -> Solve
+) -> Answer<Solution>
     requires { (HeldVectors dim limit (length r.old) (length u.old) (length ap.old) (length p.old) (length history.old)) × (PlainPassed dim limit (length offs.now) (length cols.now) (length vals.now) (length diag.now) (length r.old) (length u.old) (length ap.old) (length p.old))
         × (FilledVectors (length residual.old) (length solution.old) (length product.old) (length direction.old) (length r.old) (length u.old) (length ap.old) (length p.old)) × (length numbers.old ≡ limit) }
     ensures { SolveEnds {A = LentBytes} (pattern_rule offs.now cols.now) (solution_of binary64 tolerance (plain_run dim limit (matrix_of offs.now cols.now vals.now diag.now) tolerance (words_lent binary64 (bytes_lent r.old u.old ap.old p.old history.old))).history) result
@@ -68,7 +69,7 @@ fn solve_words(
     cols: &[u32],
     vals: &[f64],
     diag: &[f64],
-) -> Solve
+) -> Answer<Solution>
     requires { (HeldVectors dim limit (length r.old) (length u.old) (length ap.old) (length p.old) (length history.old)) × (PlainPassed dim limit (length offs.now) (length cols.now) (length vals.now) (length diag.now) (length r.old) (length u.old) (length ap.old) (length p.old)) }
     ensures { SolveEnds {A = LentBytes} (pattern_rule offs.now cols.now) (solution_of binary64 tolerance (plain_run dim limit (matrix_of offs.now cols.now vals.now diag.now) tolerance (words_lent binary64 (bytes_lent r.old u.old ap.old p.old history.old))).history) result
         (bytes_left_by binary64 (plain_run dim limit (matrix_of offs.now cols.now vals.now diag.now) tolerance (words_lent binary64 (bytes_lent r.old u.old ap.old p.old history.old))) history.old)
@@ -118,7 +119,7 @@ fn solve_in(
     columns: &[u8],
     values: &[u8],
     diagonal: &[u8],
-) -> Solve
+) -> Answer<Solution>
     requires { (FilledMatrix dim (length offs.old) (length cols.old) (length vals.old) (length diag.old) (length offsets.now) (length columns.now) (length values.now) (length diagonal.now))
         × (HeldVectors dim limit (length r.old) (length u.old) (length ap.old) (length p.old) (length history.old)) × (PlainPassed dim limit (length offs.old) (length cols.old) (length vals.old) (length diag.old) (length r.old) (length u.old) (length ap.old) (length p.old)) }
     ensures { SolveEnds {A = LentBytes} (pattern_rule (indexes_in offsets.now) (indexes_in columns.now)) (solution_of binary64 tolerance (plain_run dim limit (matrix_in binary64 offsets.now columns.now values.now diagonal.now) tolerance (words_lent binary64 (bytes_lent r.old u.old ap.old p.old history.old))).history) result
@@ -146,7 +147,7 @@ pub fn solve_in_room(
     columns: &[u8],
     values: &[u8],
     diagonal: &[u8],
-) -> Solve
+) -> Answer<Solution>
     requires { (HeldMatrix 4096 65535 dim (length offsets.now) (length columns.now) (length values.now) (length diagonal.now))
         × (HeldVectors dim limit (length r.old) (length u.old) (length ap.old) (length p.old) (length history.old)) × (PlainPassed dim limit (length offsets.now / 4) (length columns.now / 4) (length values.now / 8) (length diagonal.now / 8) (length r.old) (length u.old) (length ap.old) (length p.old)) }
     ensures { SolveEnds {A = LentBytes} (pattern_rule (indexes_in offsets.now) (indexes_in columns.now)) (solution_of binary64 tolerance (plain_run dim limit (matrix_in binary64 offsets.now columns.now values.now diagonal.now) tolerance (words_lent binary64 (bytes_lent r.old u.old ap.old p.old history.old))).history) result

@@ -8,6 +8,7 @@ ghost use Rattle.wire.specs.Words.{indexes_in, bytes_of_indexes};
 ghost use Rattle.fill_way.specs.Promise.{Wrote, Cleared, full_columns_in, ilu0_columns, iluk_offsets, iluk_columns, iluk_splits};
 ghost use Rattle.fill_bytes.specs.Checks.{full_byte_checks, ilu0_byte_checks, iluk_byte_checks};
 
+use answers::Numbered;
 use outcomes::{Outcome, rowless};
 
 // All other columns of each of n rows.

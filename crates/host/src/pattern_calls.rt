@@ -8,6 +8,7 @@ ghost use Rattle.wire.specs.Words.{indexes_in, bytes_of_indexes};
 ghost use Rattle.pattern_bytes.specs.Checks.{byte_checks, broken_pattern, broken_factor, row_checks};
 ghost use Rattle.outcomes.specs.Calls.{Checked, Finished};
 
+use answers::Numbered;
 use outcomes::{Outcome, rowless};
 
 // Whether a pattern of A is valid.

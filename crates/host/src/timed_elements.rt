@@ -7,6 +7,8 @@ ghost use Rattle.elements.specs.Checks.{merge_checks};
 ghost use Rattle.numbered.specs.Checks.{dim_checks};
 ghost use Rattle.outcomes.specs.Calls.{Finished};
 
+use answers::Numbered;
+
 pub fn pierbramble_timed_merge(
     dim: u32,
     nodes: &[u32],

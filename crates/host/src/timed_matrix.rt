@@ -9,6 +9,8 @@ ghost use Rattle.fixing.specs.Fixing.{fix_diagonal, fix_values};
 ghost use Rattle.numbered.specs.Checks.{dim_checks};
 ghost use Rattle.outcomes.specs.Calls.{Finished};
 
+use answers::Numbered;
+
 pub fn pierbramble_timed_mult_vec(
     dim: u32,
     offsets: &[u32],

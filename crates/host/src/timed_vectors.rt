@@ -7,6 +7,7 @@ ghost use Rattle.vector_bytes.specs.Checks.{words, call_checks};
 ghost use Rattle.outcomes.specs.Calls.{Finished};
 ghost use Rattle.outcomes.specs.Sums.{FinishedSum};
 
+use answers::Numbered;
 use outcomes::{Summed, summed_of};
 
 pub fn pierbramble_timed_set_zero(dim: u32, n: u32, p: &mut [f64]) -> u32

@@ -11,7 +11,9 @@ ghost use Rattle.elements.specs.Assembly.{Lists, merged};
 ghost use Rattle.elements.specs.Checks.{pair_checks};
 ghost use Rattle.elements.specs.Fits.{AssemblyFits};
 
+use blocks::{One, Three, Two};
 use elements::unchecked::{Rule, assemble};
+use matrix::unchecked::mult_vec;
 
 // y scaled by beta, plus alpha times the matrix times x.
 pub fn pierbramble_unchecked_mult_vec(
@@ -28,17 +30,11 @@ pub fn pierbramble_unchecked_mult_vec(
     requires { (MatrixFits dim offsets.now columns.now (length values.now) (length diagonal.now)) × (length x.now ≡ dim * rows_of offsets.now) × (length y.old ≡ dim * rows_of offsets.now) }
     ensures { y.new ≡ mult_vec binary64 dim offsets.now columns.now values.now diagonal.now beta alpha x.now y.old }
 {
-    matrix::unchecked::mult_vec(
-        y,
-        dim as usize,
-        beta,
-        alpha,
-        offsets,
-        columns,
-        values,
-        diagonal,
-        x,
-    )
+    match dim {
+        1 => mult_vec::<One>(y, beta, alpha, offsets, columns, values, diagonal, x),
+        2 => mult_vec::<Two>(y, beta, alpha, offsets, columns, values, diagonal, x),
+        _ => mult_vec::<Three>(y, beta, alpha, offsets, columns, values, diagonal, x),
+    }
 }
 
 // The answer is dropped: the benchmark's nodes and pairs are all in the pattern.
@@ -57,15 +53,16 @@ pub fn pierbramble_unchecked_merge(
         (merged binary64 dim nodes.now element.now offsets.now columns.now (diagonal.old, values.old))
         (diagonal.old, values.old)) }
 {
-    assemble(
-        diagonal,
-        values,
-        dim as usize,
-        Rule::Place,
-        nodes,
-        nodes,
-        element,
-        offsets,
-        columns,
-    );
+    let rule = Rule::Place;
+    let _ = match dim {
+        1 => assemble::<One>(
+            diagonal, values, rule, nodes, nodes, element, offsets, columns,
+        ),
+        2 => assemble::<Two>(
+            diagonal, values, rule, nodes, nodes, element, offsets, columns,
+        ),
+        _ => assemble::<Three>(
+            diagonal, values, rule, nodes, nodes, element, offsets, columns,
+        ),
+    };
 }

@@ -8,8 +8,8 @@ use native.Mathlib.Omega.{arith}
 use lib.Dec.{eqb}
 use lib.ListN.{length, replicate}
 use borrow.Author.Tests.{eq-eqb, ne_eqb, not-false}
-use Rattle.answers.specs.declared.Answer.{Answer}
-use Rattle.answers.specs.declared.Answer.TheVariants.{Done}
+use Rattle.std.specs.Prelude.{Ok}
+use Rattle.answers.specs.Numbers.{Answer}
 use Rattle.answers.specs.Numbers.{number_of}
 use Rattle.answers.specs.Checks.{first_of}
 use Rattle.answers.specs.Limits.{entries_out_of_range}
@@ -83,7 +83,7 @@ module _ (starts entries : List ℕ) where
 
 -- A call of each that is done, on the same A and with as much room, leaves the same pattern.
 pub same_pattern : (starts entries offsets columns splits o cs ss offsets' columns' splits' levels row o' cs' ss' ls' w' : List ℕ) → length columns ≡ length columns'
-    → Sorted starts entries offsets columns splits Done o cs ss → Initialized 0 starts entries offsets' columns' splits' levels row Done o' cs' ss' ls' w'
+    → Sorted starts entries offsets columns splits (Ok tt) o cs ss → Initialized 0 starts entries offsets' columns' splits' levels row (Ok tt) o' cs' ss' ls' w'
     → (o ≡ o') × (cs ≡ cs') × (ss ≡ ss')
 same_pattern starts entries offsets columns splits o cs ss offsets' columns' splits' levels row o' cs' ss' ls' w' room S I =
     let done = sym S.number in (

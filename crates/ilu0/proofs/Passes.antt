@@ -7,7 +7,7 @@ use Prim.Native.Nat.{ℕ, ◌-◌, ◌≤◌}
 use native.Mathlib.Omega.{arith}
 use lib.ListN.{length, get_or, take, replicate}
 use lib.Seq.{take_at}
-use Rattle.answers.specs.declared.Answer.TheVariants.{Done}
+use Rattle.std.specs.Prelude.{Ok}
 use Rattle.answers.specs.Checks.{first_of}
 use Rattle.patterns.specs.Pattern.{rows_of, valid_pattern}
 use Rattle.patterns.specs.Checks.{too_large, factor_checks}
@@ -36,7 +36,7 @@ module _ (starts entries : List ℕ) (sized : too_large (length starts) (length 
       rw (offsets_at_zero starts entries valid some_rows, columns_at_zero starts entries valid some_rows, splits_at_zero starts entries valid some_rows) at
       (fill_passes (stored starts entries) 0 (rows_of starts) some_rows (rows_most (length starts) (length entries) sized) (omega (arith, entries_at_zero starts entries valid some_rows)))
 
-module _ (starts entries offsets columns splits offsets' columns' splits' : List ℕ) (S : Sorted starts entries offsets columns splits Done offsets' columns' splits') where
+module _ (starts entries offsets columns splits offsets' columns' splits' : List ℕ) (S : Sorted starts entries offsets columns splits (Ok tt) offsets' columns' splits') where
   not_large : too_large (length starts) (length entries) ≡ false
   not_large = sized starts entries (length offsets) (length columns) (length splits) (sym S.number)
 

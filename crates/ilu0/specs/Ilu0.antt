@@ -1,7 +1,7 @@
 -- The promise of `initialize_ilu0`: "rows of A sorted, splits set". Its number, and every lent word afterwards.
 -- Definitions only.
+use Rattle.answers.specs.Numbers.{Answer}
 use Rattle.std.specs.Prelude.{◌≡◌, List, [], ◌∷◌, ◌++◌, not, ℕ, ◌-◌, ltb, length, replicate}
-use Rattle.answers.specs.declared.Answer.{Answer}
 use Rattle.answers.specs.Numbers.{number_of}
 use Rattle.answers.specs.Checks.{Check, ◌when◌, first_of}
 use Rattle.patterns.specs.Pattern.{rows_of, row_of, split_of, valid_pattern}

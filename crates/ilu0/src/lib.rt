@@ -22,21 +22,21 @@ pub fn initialize_ilu0(
     ensures { Sorted starts.now entries.now offsets.old columns.old splits.old result offsets.new columns.new splits.new }
 {
     if is_too_large(starts.len(), entries.len()) {
-        return Answer::Refused(Refusal::Size);
+        return Err(Refusal::Size);
     }
     let n = starts.len() - 1;
     if is_wrong_output(n, offsets.len(), columns.len(), splits.len()) {
-        return Answer::Refused(Refusal::Shape);
+        return Err(Refusal::Shape);
     }
     if !is_valid_pattern(starts, entries) {
-        return Answer::Refused(Refusal::Pattern);
+        return Err(Refusal::Pattern);
     }
     if columns.len() < entries.len() {
         clear(offsets);
         clear(columns);
         clear(splits);
-        return Answer::Refused(Refusal::Room);
+        return Err(Refusal::Room);
     }
     write_sorted(offsets, columns, splits, starts, entries);
-    Answer::Done
+    Ok(())
 }

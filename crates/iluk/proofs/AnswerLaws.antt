@@ -9,10 +9,10 @@ use native.Mathlib.Omega.{arith}
 use lib.Dec.{eqb}
 use lib.ListN.{length}
 use borrow.Author.Tests.{le-leb, lt-ltb, le-ltb, leb-true, leb-false, eqb-true, not-false}
+use Rattle.std.specs.Prelude.{Ok, Err}
 use Rattle.base.specs.All.{all_to}
 use Rattle.base.proofs.All.{all_of, or_left, or_right}
 use Rattle.answers.specs.declared.Refusal.TheVariants.{Size, Shape, Pattern, Room}
-use Rattle.answers.specs.declared.Answer.TheVariants.{Done, Refused}
 use Rattle.patterns.specs.Pattern.{rows_of, valid_pattern}
 use Rattle.patterns.specs.Checks.{too_large}
 use Rattle.patterns.proofs.SizeLaws.{rows_most}
@@ -52,16 +52,16 @@ no_level_passes A k n few =
     fits i j hi (some l) e = le-leb l 65535 (omega (arith, level_low A k i j l e))
 
 module _ (k : ℕ) (ao ac o cs ss ls row : List ℕ) where
-  pub wrong_size : too_large (length ao) (length ac) ≡ true → Initialized k ao ac o cs ss ls row (Refused Size) o cs ss ls row
+  pub wrong_size : too_large (length ao) (length ac) ≡ true → Initialized k ao ac o cs ss ls row (Err Size) o cs ss ls row
   wrong_size a = record { number = rw a; offsets_are = refl; columns_are = refl; splits_are = refl; levels_are = refl; row_is = refl }
 
   module _ (a : too_large (length ao) (length ac) ≡ false) where
     pub wrong_shape_lem : wrong_lengths (rows_of ao) (length o) (length cs) (length ss) (length ls) (length row) ≡ true
-        → Initialized k ao ac o cs ss ls row (Refused Shape) o cs ss ls row
+        → Initialized k ao ac o cs ss ls row (Err Shape) o cs ss ls row
     wrong_shape_lem b = record { number = rw (a, b); offsets_are = refl; columns_are = refl; splits_are = refl; levels_are = refl; row_is = refl }
 
     module _ (b : wrong_lengths (rows_of ao) (length o) (length cs) (length ss) (length ls) (length row) ≡ false) where
-      pub wrong_pattern : valid_pattern ao ac ≡ false → Initialized k ao ac o cs ss ls row (Refused Pattern) o cs ss ls row
+      pub wrong_pattern : valid_pattern ao ac ≡ false → Initialized k ao ac o cs ss ls row (Err Pattern) o cs ss ls row
       wrong_pattern d = record { number = rw (a, b, d); offsets_are = refl; columns_are = refl; splits_are = refl; levels_are = refl; row_is = refl }
 
       module _ (d : valid_pattern ao ac ≡ true) where
@@ -86,7 +86,7 @@ module _ (k : ℕ) (ao ac o cs ss ls row : List ℕ) where
         low = no_level_passes (stored ao ac) k (rows_of ao) (rows_most (length ao) (length ac) a)
 
         module _ (r : Bool) (o' cs' ss' ls' row' : List ℕ) (w : Whole (stored ao ac) k (rows_of ao) (length cs) r o' cs' ss' ls' row') where
-          pub all_done : r ≡ true → Initialized k ao ac o cs ss ls row Done o' cs' ss' ls' row'
+          pub all_done : r ≡ true → Initialized k ao ac o cs ss ls row (Ok tt) o' cs' ss' ls' row'
           unfolding fill_offsets fill_splits
           all_done t =
               let room = le-ltb _ _ (leb-true (start_of (stored ao ac) k (rows_of ao) (rows_of ao)) (length cs) (sym w.answer ∙ t)) in
@@ -99,7 +99,7 @@ module _ (k : ℕ) (ao ac o cs ss ls row : List ℕ) where
                 row_is = w.row_clear ∙ rw rows_long;
               }
 
-          pub no_room : r ≡ false → Initialized k ao ac o cs ss ls row (Refused Room) o' cs' ss' ls' row'
+          pub no_room : r ≡ false → Initialized k ao ac o cs ss ls row (Err Room) o' cs' ss' ls' row'
           no_room t =
               let full = lt-ltb _ _ (leb-false (start_of (stored ao ac) k (rows_of ao) (rows_of ao)) (length cs) (sym w.answer ∙ t)) in
               record {

@@ -5,7 +5,7 @@ use mathlib.Core.Logic.{◌≢◌, ◌↔◌}
 use mathlib.Core.List.{List}
 use Prim.Native.Nat.{ℕ, suc, ◌+◌, ◌≤◌, ◌<◌}
 use lib.ListN.{length, get_or}
-use Rattle.answers.specs.declared.Answer.TheVariants.{Done}
+use Rattle.std.specs.Prelude.{Ok}
 use Rattle.patterns.specs.Pattern.{rows_of, row_of}
 use Rattle.walks.specs.Levels.{level_of}
 use Rattle.walks.specs.Nesting.{Nested}
@@ -15,7 +15,7 @@ use Rattle.fill.proofs.Meaning.{written_row, fill_walks, rows_rise, split_true}
 use Rattle.iluk.specs.Iluk.{Initialized}
 
 module _ (k : ℕ) (starts entries offsets columns splits levels row offsets' columns' splits' levels' row' : List ℕ)
-    (I : Initialized k starts entries offsets columns splits levels row Done offsets' columns' splits' levels' row') where
+    (I : Initialized k starts entries offsets columns splits levels row (Ok tt) offsets' columns' splits' levels' row') where
   -- Demand 3. Row i of the written pattern holds column j exactly if stored entries of A form a walk from i to j whose rows in between are lower than
   -- both, with nesting at most k.
   pub demand_3 : (i j : ℕ) → i < rows_of starts → j < rows_of starts → i ≢ j → In j (row_of offsets' columns' i) ↔ ((walk : List ℕ) × Nested (stored starts entries) i j k walk)

@@ -7,7 +7,7 @@ use native.Mathlib.Omega.{arith}
 use lib.ListN.{length, get_or, take, replicate}
 use lib.Seq.{take_at}
 use borrow.Author.Tests.{ltb-false}
-use Rattle.answers.specs.declared.Answer.TheVariants.{Done}
+use Rattle.std.specs.Prelude.{Ok}
 use Rattle.answers.specs.Checks.{first_of}
 use Rattle.patterns.specs.Pattern.{rows_of, row_of}
 use Rattle.patterns.specs.Checks.{factor_checks}
@@ -24,7 +24,7 @@ use Rattle.iluk.proofs.AnswerLaws.{lengths_are}
 use Rattle.iluk.proofs.Demand.{done_row}
 
 module _ (k : ℕ) (starts entries offsets columns splits levels row offsets' columns' splits' levels' row' : List ℕ)
-    (I : Initialized k starts entries offsets columns splits levels row Done offsets' columns' splits' levels' row') where
+    (I : Initialized k starts entries offsets columns splits levels row (Ok tt) offsets' columns' splits' levels' row') where
   -- the columns up to the last offset: past them the room is clear
   pub done_columns : take (get_or offsets' (rows_of starts) 0) columns' ≡ fill_columns (stored starts entries) k (rows_of starts) (rows_of starts)
   unfolding fill_offsets start_of

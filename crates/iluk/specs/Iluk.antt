@@ -1,7 +1,7 @@
 -- The promise of `initialize_iluk`: its number, and every lent word afterwards.
 -- Definitions only.
+use Rattle.answers.specs.Numbers.{Answer}
 use Rattle.std.specs.Prelude.{◌≡◌, List, ◌++◌, ℕ, ◌-◌, length, replicate}
-use Rattle.answers.specs.declared.Answer.{Answer}
 use Rattle.answers.specs.Numbers.{number_of}
 use Rattle.answers.specs.Checks.{first_of}
 use Rattle.patterns.specs.Pattern.{rows_of}

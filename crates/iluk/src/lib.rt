@@ -48,7 +48,7 @@ pub fn initialize_iluk(
     ensures { Initialized k starts.now entries.now offsets.old columns.old splits.old levels.old row.old result offsets.new columns.new splits.new levels.new row.new }
 {
     if is_too_large(starts.len(), entries.len()) {
-        return Answer::Refused(Refusal::Size);
+        return Err(Refusal::Size);
     }
     let n = starts.len() - 1;
     if has_wrong_lengths(
@@ -59,15 +59,15 @@ pub fn initialize_iluk(
         levels.len(),
         row.len(),
     ) {
-        return Answer::Refused(Refusal::Shape);
+        return Err(Refusal::Shape);
     }
     if !is_valid_pattern(starts, entries) {
-        return Answer::Refused(Refusal::Pattern);
+        return Err(Refusal::Pattern);
     }
     if !write_fill(
         offsets, columns, splits, levels, row, k, n as u32, starts, entries,
     ) {
-        return Answer::Refused(Refusal::Room);
+        return Err(Refusal::Room);
     }
-    Answer::Done
+    Ok(())
 }

@@ -23,13 +23,10 @@ fn write_rows(
     ensures { Filled (stored starts.now entries.now) k n columns.old levels.old result offsets.new columns.new splits.new levels.new row.new }
 {
     offsets[0] = 0;
-    let mut i = 0;
     let mut at = 0;
-    while i < n {
+    for i in 0..n {
         let span = row_levels(row, i, k, starts, entries, offsets, columns, splits, levels);
-        let low = span.low;
-        let high = span.high;
-        let all = count_marks(row, low, high);
+        let all = count_marks(row, span.low, span.high);
         if columns.len() - at < all {
             return false;
         }
@@ -37,12 +34,12 @@ fn write_rows(
             columns, levels, splits, offsets, row, i as usize, at, all, span,
         );
         at += all;
-        i += 1;
     }
     true
 }
 
 // The fill at level k, into columns that are 0 past the last entry. Answers whether it fits; where it does not, every word is 0.
+#[tactic(auto, using(fill::proofs::WholeLaws::whole_room, fill::proofs::WholeLaws::shaped_clear, fill::proofs::WholeLaws::zeros_as))]
 pub fn write_fill(
     offsets: &mut [u32],
     columns: &mut [u32],

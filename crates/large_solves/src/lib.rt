@@ -1,18 +1,19 @@
-// Both solvers, conjugate_gradient and preconditioned_conjugate_gradient (0, 1), on 4,096 rows in a ring, with a factor that has no entries.
+// Both solvers, conjugate_gradient and preconditioned_conjugate_gradient on 4,096 rows in a ring, with a factor that has no entries.
 // The vectors are too long to be shown: all their words are folded into one, and the history is shown. Nothing is printed here, so that nothing is assumed.
 #![tactic(auto)]
 
+use answers::Answer;
 use limits::filled::fill;
 use limits::ring::fill_offsets;
 use limits::sizes::{values_a_block, values_a_row};
 use ring_systems::{fill_columns, fill_diagonal, fill_inverses, fill_values};
-use solver_calls::{plain, preconditioned};
-use solvers::Solve;
+use solver_calls::{SolverCall, plain, preconditioned};
+use solvers::Solution;
 
 // The answer, the words that are left of r, u or x, ap or pr, and p, folded, and the history with the words past its count.
 #[derive(Drop)]
 pub struct Folded {
-    pub answer: Solve,
+    pub answer: Answer<Solution>,
     pub r: u64,
     pub x: u64,
     pub q: u64,
@@ -20,32 +21,13 @@ pub struct Folded {
     pub history: [f64; 24],
 }
 
-// A word turned by one bit: the highest becomes the lowest.
-fn turned(word: u64) -> u64 {
-    if word < 0x8000000000000000 {
-        return word * 2;
-    }
-    (word - 0x8000000000000000) * 2 + 1
-}
-
-// The bits of a value are added to a turned word; what passes 64 bits falls away.
-fn folded_with(word: u64, x: f64) -> u64 {
-    std::num::wrapping_add_u64(turned(word), words::bits_of(x))
-}
-
+// The bits of each value are added to the word turned by one bit, whose highest becomes the lowest; what passes 64 bits falls away.
 fn fold(values: &[f64]) -> u64 {
     let mut word: u64 = 0;
-    let mut k = 0;
-    while k < values.len() {
-        word = folded_with(word, values[k]);
-        k += 1;
+    for value in values {
+        word = word.rotate_left(1).wrapping_add(words::bits_of(*value));
     }
     word
-}
-
-// The room of a vector.
-fn fold_room(values: &[f64; 12288]) -> u64 {
-    fold(values)
 }
 
 // A's pattern is lent as it is, the factor's is made here.
@@ -60,7 +42,7 @@ fn solve_by_factor(
     entries: &[u32],
     a_values: &[f64],
     a_diagonal: &[f64],
-) -> Solve {
+) -> Answer<Solution> {
     let offsets = [0u32; 4097];
     let columns = [0u32; 1];
     let splits = [0u32; 4096];
@@ -89,7 +71,7 @@ fn solve_by_factor(
 }
 
 fn solve_with(
-    call: usize,
+    call: SolverCall,
     dim: usize,
     r: &mut [f64],
     x: &mut [f64],
@@ -100,8 +82,8 @@ fn solve_with(
     columns: &[u32],
     values: &[f64],
     diagonal: &[f64],
-) -> Solve {
-    if call == 0 {
+) -> Answer<Solution> {
+    if call == SolverCall::Plain {
         return plain(
             dim,
             r,
@@ -122,14 +104,14 @@ fn solve_with(
 
 // A of 4,096 rows in a ring.
 fn solve(
-    call: usize,
+    call: SolverCall,
     dim: usize,
     r: &mut [f64],
     x: &mut [f64],
     q: &mut [f64],
     p: &mut [f64],
     history: &mut [f64],
-) -> Solve {
+) -> Answer<Solution> {
     let size = values_a_block(dim);
     let mut offsets = [0u32; 4097];
     let mut columns = [0u32; 8192];
@@ -155,7 +137,7 @@ fn solve(
 }
 
 // A solve with lent vectors whose words rise by one. The room past them is folded too.
-pub fn solved(call: usize, dim: usize) -> Folded {
+pub fn solved(call: SolverCall, dim: usize) -> Folded {
     let count = 4096 * values_a_row(dim);
     let mut r = [0.0; 12288];
     let mut x = [0.0; 12288];
@@ -178,10 +160,10 @@ pub fn solved(call: usize, dim: usize) -> Folded {
     );
     Folded {
         answer,
-        r: fold_room(&r),
-        x: fold_room(&x),
-        q: fold_room(&q),
-        p: fold_room(&p),
+        r: fold(&r),
+        x: fold(&x),
+        q: fold(&q),
+        p: fold(&p),
         history,
     }
 }

@@ -9,7 +9,7 @@ use lib.ListN.{length, drop_of_length-le}
 use lib.Seq.{take_all}
 use lib.Ieee.{Float, Format}
 use Rattle.base.specs.Iterate.{steps, iterate}
-use Rattle.answers.specs.declared.Answer.{Answer}
+use Rattle.answers.specs.Numbers.{Answer}
 use Rattle.blocks.specs.Block.{product, applied}
 use Rattle.blocks.specs.Inverse.{inverse, singular}
 use Rattle.blocks.specs.Lent.{values_at, block_at, vector_at, put_at}

@@ -1,11 +1,9 @@
 -- Block operations where the blocks lie in lent slices: block e of a slice, replaced by the result of an operation on blocks of other slices.
 -- Each is at any format f and any N. Definitions only.
-use Rattle.std.specs.Prelude.{◌≡◌, List, [], ◌∷◌, ◌++◌, Bool, true, cond, ◌||◌, ℕ, zero, suc, ◌+◌, ◌*◌, ◌≤◌, eqb, take, drop, Float}
+use Rattle.std.specs.Prelude.{◌≡◌, List, [], ◌∷◌, ◌++◌, cond, ℕ, zero, suc, ◌+◌, ◌*◌, ◌≤◌, take, drop, Float, Ok}
 use Rattle.std.specs.Float.{Format}
 use Rattle.base.specs.Iterate.{iterate}
-use Rattle.answers.specs.declared.Answer.{Answer}
-use Rattle.answers.specs.declared.Answer.TheVariants.{Done}
-use Rattle.answers.specs.Numbers.{number_of, values_of}
+use Rattle.answers.specs.Numbers.{Answer, number_of, values_of}
 use Rattle.answers.specs.Checks.{first_of, ◌when◌}
 use Rattle.blocks.specs.Block.{product, applied}
 use Rattle.blocks.specs.Inverse.{inverse, singular}
@@ -52,14 +50,10 @@ apply_each f n a x count out = iterate (λ k z. apply_at f n a k x k k z) 0 coun
 unfoldable pub inverse_each : Format → ℕ → List Float → ℕ → List Float → List Float
 inverse_each f n a count out = iterate (λ k z. inverse_at f n a k k z) 0 count out
 
--- what the last of the inverses answers, and Done if there is none
+-- what the last of the inverses answers, and done if there is none
 abbrev pub InvertingLast : Format → ℕ → List Float → ℕ → Answer → Type 0
-InvertingLast f n a zero answer = answer ≡ Done
+InvertingLast f n a zero answer = answer ≡ Ok tt
 InvertingLast f n a (suc k) answer = Inverting f n (block_at n a k) answer
-
--- as many values as a row or a block has: N or N * N for an N of 1, 2, 3
-abbrev pub counted : ℕ → Bool
-counted m = eqb m 1 || eqb m 2 || eqb m 3 || eqb m 4 || eqb m 9
 
 -- part k of z, of m values, replaced by what op makes of part k of u and part k of v
 unfoldable pub part_at : (List Float → List Float → List Float) → ℕ → List Float → List Float → ℕ → List Float → List Float

@@ -3,36 +3,19 @@
 
 pub fn fill(values: &mut [f64]) {
     let mut x = 1.0;
-    let mut k = 0;
-    while k < values.len() {
-        values[k] = x;
-        x = x + 1.0;
-        k += 1;
+    for value in values.iter_mut() {
+        *value = x;
+        x += 1.0;
     }
 }
 
-fn is_filled(values: &[f64]) -> bool {
+pub fn is_filled(values: &[f64]) -> bool {
     let mut x = 1.0;
-    let mut k = 0;
-    while k < values.len() {
-        if values[k] != x {
+    for value in values {
+        if *value != x {
             return false;
         }
-        x = x + 1.0;
-        k += 1;
+        x += 1.0;
     }
     true
-}
-
-// The room of a vector.
-pub fn is_vector_filled(values: &[f64; 12292]) -> bool {
-    is_filled(values)
-}
-
-// The rooms of a matrix.
-pub fn is_matrix_filled(values: &[f64; 65537], diagonal: &[f64; 36874]) -> bool {
-    if !is_filled(values) {
-        return false;
-    }
-    is_filled(diagonal)
 }

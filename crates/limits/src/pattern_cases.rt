@@ -3,28 +3,38 @@
 ghost use Rattle.std.specs.Prelude.{◌≤◌};
 
 use crate::ring::{fill_columns, fill_offsets};
+use answers::Numbered;
 
-fn number_of(own: bool, offsets: &[u32], columns: &[u32]) -> u32 {
-    if own {
-        return patterns::check_entries(offsets, columns).number();
+// Which of the two asks for a pattern.
+#[derive(Clone, Copy)]
+pub enum Check {
+    Pattern,
+    Entries,
+}
+
+impl Check {
+    fn number(self, offsets: &[u32], columns: &[u32]) -> u32 {
+        match self {
+            Check::Pattern => patterns::check_pattern(offsets, columns).number(),
+            Check::Entries => patterns::check_entries(offsets, columns).number(),
+        }
     }
-    patterns::check_pattern(offsets, columns).number()
 }
 
 // Two rows that name each other; a first offset of 1; an offset that falls in the middle; a last offset below, above the number of columns;
 // a column that is n; a column twice, side by side, apart; an own column; rows that are not sorted.
-pub fn try_rule(own: bool, case: usize) -> u32 {
+pub fn try_rule(check: Check, case: usize) -> u32 {
     match case {
-        0 => number_of(own, &[0, 1, 2], &[1, 0]),
-        1 => number_of(own, &[1, 1, 2], &[1, 0]),
-        2 => number_of(own, &[0, 2, 1, 3], &[1, 2, 0]),
-        3 => number_of(own, &[0, 1, 1], &[1, 0]),
-        4 => number_of(own, &[0, 1, 3], &[1, 0]),
-        5 => number_of(own, &[0, 1, 2], &[1, 2]),
-        6 => number_of(own, &[0, 2, 2, 2], &[1, 1]),
-        7 => number_of(own, &[0, 3, 3, 3], &[1, 2, 1]),
-        8 => number_of(own, &[0, 1, 2], &[1, 1]),
-        _ => number_of(own, &[0, 2, 4, 6], &[2, 1, 2, 0, 1, 0]),
+        0 => check.number(&[0, 1, 2], &[1, 0]),
+        1 => check.number(&[1, 1, 2], &[1, 0]),
+        2 => check.number(&[0, 2, 1, 3], &[1, 2, 0]),
+        3 => check.number(&[0, 1, 1], &[1, 0]),
+        4 => check.number(&[0, 1, 3], &[1, 0]),
+        5 => check.number(&[0, 1, 2], &[1, 2]),
+        6 => check.number(&[0, 2, 2, 2], &[1, 1]),
+        7 => check.number(&[0, 3, 3, 3], &[1, 2, 1]),
+        8 => check.number(&[0, 1, 2], &[1, 1]),
+        _ => check.number(&[0, 2, 4, 6], &[2, 1, 2, 0, 1, 0]),
     }
 }
 
@@ -56,10 +66,9 @@ fn offset_count(case: usize) -> usize
 }
 
 // No offset, one; then 1, 4,096 and 4,097 rows without a column.
-pub fn try_rows(own: bool, case: usize) -> u32 {
+pub fn try_rows(check: Check, case: usize) -> u32 {
     let offsets = [0u32; 4098];
-    let columns = [0u32; 1];
-    number_of(own, &offsets[0..offset_count(case)], &columns[0..0])
+    check.number(&offsets[..offset_count(case)], &[])
 }
 
 fn column_count(case: usize) -> usize
@@ -72,10 +81,10 @@ fn column_count(case: usize) -> usize
 }
 
 // 65,535 and 65,536 columns: 257 rows have 255 each.
-pub fn try_columns(own: bool, case: usize) -> u32 {
+pub fn try_columns(check: Check, case: usize) -> u32 {
     let mut offsets = [0u32; 258];
     let mut columns = [0u32; 65536];
     fill_offsets(&mut offsets, 255);
     fill_columns(&mut columns, 257, 255, 1);
-    number_of(own, &offsets, &columns[0..column_count(case)])
+    check.number(&offsets, &columns[..column_count(case)])
 }

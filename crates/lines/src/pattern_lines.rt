@@ -1,53 +1,76 @@
 // The lines of the pattern calls: offsets, columns and, of a factor, splits; and those of the row sort.
 // A check leaves no word.
-ghost use Rattle.std.specs.Prelude.{◌≤◌};
+use crate::length::Form;
+use crate::line::{Line, after};
+use answers::Numbered;
 
-use crate::line::{after, are_indexes, count_at, indexes_of, is_answer, place};
-
-fn run(call: usize, offsets: &[u32], columns: &[u32], splits: &[u32]) -> u32 {
-    match call {
-        7 => patterns::check_pattern(offsets, columns).number(),
-        8 => patterns::check_entries(offsets, columns).number(),
-        _ => patterns::check_factor(offsets, columns, splits).number(),
-    }
+#[derive(Clone, Copy, PartialEq, Eq)]
+pub enum PatternCall {
+    CheckPattern,
+    CheckEntries,
+    CheckFactor,
+    SortRow,
 }
 
-// How many slices a call lends, and how many splits.
-fn slices(call: usize) -> usize
-    ensures { result ≤ 3 }
-{
-    if call == 9 { 3 } else { 2 }
+fn checks_pattern(line: &Line) -> bool {
+    let offsets = line.indexes(2, 0);
+    let columns = line.indexes(2, 1);
+    let answer = patterns::check_pattern(&offsets[..line.count(0)], &columns[..line.count(1)]);
+    line.is_answer(line.place(2, 2), answer.number())
 }
 
-fn split_count(call: usize, words: [u64; 128]) -> usize
-    ensures { result ≤ 128 }
-{
-    if call == 9 {
-        return count_at(words, 2);
-    }
-    0
+fn checks_entries(line: &Line) -> bool {
+    let offsets = line.indexes(2, 0);
+    let columns = line.indexes(2, 1);
+    let answer = patterns::check_entries(&offsets[..line.count(0)], &columns[..line.count(1)]);
+    line.is_answer(line.place(2, 2), answer.number())
 }
 
-pub fn agrees(call: usize, words: [u64; 128]) -> bool {
-    let counts = slices(call);
-    let offsets = indexes_of(words, counts, 0);
-    let columns = indexes_of(words, counts, 1);
-    let splits = indexes_of(words, counts, 2);
-    let number = run(
-        call,
-        &offsets[0..count_at(words, 0)],
-        &columns[0..count_at(words, 1)],
-        &splits[0..split_count(call, words)],
+fn checks_factor(line: &Line) -> bool {
+    let offsets = line.indexes(3, 0);
+    let columns = line.indexes(3, 1);
+    let splits = line.indexes(3, 2);
+    let answer = patterns::check_factor(
+        &offsets[..line.count(0)],
+        &columns[..line.count(1)],
+        &splits[..line.count(2)],
     );
-    is_answer(words, place(words, counts, counts), number)
+    line.is_answer(line.place(3, 3), answer.number())
 }
 
-pub fn sort_agrees(words: [u64; 128]) -> bool {
-    let mut columns = indexes_of(words, 1, 0);
-    rows::sort(&mut columns[0..count_at(words, 0)]);
-    let at = place(words, 1, 1);
-    if !is_answer(words, at, 0) {
-        return false;
+fn sorts_row(line: &Line) -> bool {
+    let count = line.count(0);
+    let mut columns = line.indexes(1, 0);
+    rows::sort(&mut columns[..count]);
+    let at = line.place(1, 1);
+    line.is_answer(at, 0) && line.are_indexes(after(at, 2), &columns[..count])
+}
+
+impl PatternCall {
+    pub fn name(self) -> &'static str {
+        match self {
+            PatternCall::CheckPattern => "check_pattern",
+            PatternCall::CheckEntries => "check_entries",
+            PatternCall::CheckFactor => "check_factor",
+            PatternCall::SortRow => "sort_row",
+        }
     }
-    are_indexes(words, after(at, 2), &columns, count_at(words, 0))
+
+    pub fn form(self) -> Form {
+        match self {
+            PatternCall::CheckPattern | PatternCall::CheckEntries => Form::new(2, 0, 0..0),
+            PatternCall::CheckFactor => Form::new(3, 0, 0..0),
+            PatternCall::SortRow => Form::new(1, 0, 0..1),
+        }
+    }
+
+    // Whether the call answers as the original: the number, the row and every word that it leaves.
+    pub fn agrees(self, line: &Line) -> bool {
+        match self {
+            PatternCall::CheckPattern => checks_pattern(line),
+            PatternCall::CheckEntries => checks_entries(line),
+            PatternCall::CheckFactor => checks_factor(line),
+            PatternCall::SortRow => sorts_row(line),
+        }
+    }
 }

@@ -1,103 +1,128 @@
 // The lines of the vector calls: n, the vector that is written, a factor where the call has one, and a second vector or flags.
 // A dot product's line ends with its sum.
-ghost use Rattle.std.specs.Prelude.{◌≤◌};
-
-use crate::line::{
-    after, count_at, flags_of, is_answer, leaves, number_at, place, value_at, values_of, word_at,
-};
+use crate::length::Form;
+use crate::line::{Line, after};
+use answers::{Answer, Numbered};
 use vector_bytes::numbered;
-use vectors::Dot;
 
-fn run(
-    call: usize,
-    dim: u32,
-    n: u32,
-    s: f64,
-    first: &mut [f64],
-    values: &[f64],
-    flags: &[i32],
-) -> u32 {
-    match call {
-        0 => numbered::set_zero(dim, n, first).number(),
-        1 => numbered::copy(dim, n, first, values).number(),
-        2 => numbered::add_scaled_vector(dim, n, first, s, values).number(),
-        3 => numbered::scale_and_add_vec(dim, n, first, s, values).number(),
-        4 => numbered::set_fixed(dim, n, first, flags).number(),
-        _ => numbered::set_fix_dof_to_rhs_vector(dim, n, first, flags).number(),
-    }
+#[derive(Clone, Copy, PartialEq, Eq)]
+pub enum VectorCall {
+    SetZero,
+    Copy,
+    AddScaledVector,
+    ScaleAndAddVec,
+    SetFixed,
+    SetFixDofToRhsVector,
+    Dot,
 }
 
-// How many slices a call lends, and how many factors stand between them.
-fn slices(call: usize) -> usize
-    ensures { result ≤ 2 }
-{
-    if call == 0 { 1 } else { 2 }
+fn sets_zero(dim: u32, line: &Line) -> bool {
+    let mut first = line.values(2, 0);
+    let answer = numbered::set_zero(dim, line.number(1), &mut first[..line.count(0)]);
+    line.leaves(line.place(2, 1), answer.number(), 0, &first)
 }
 
-fn factors(call: usize) -> usize
-    ensures { result ≤ 1 }
-{
-    match call {
-        2 => 1,
-        3 => 1,
-        _ => 0,
-    }
-}
-
-// How long the second slice is, where there is one.
-fn second_count(call: usize, words: [u64; 128]) -> usize
-    ensures { result ≤ 128 }
-{
-    if call == 0 {
-        return 0;
-    }
-    count_at(words, 1)
-}
-
-pub fn agrees(call: usize, dim: u32, words: [u64; 128]) -> bool {
-    let counts = slices(call);
-    let first_at = after(counts, 1);
-    let second_at = after(first_at, factors(call));
-    let mut first = values_of(words, first_at, 0);
-    let values = values_of(words, second_at, 1);
-    let flags = flags_of(words, second_at, 1);
-    let number = run(
-        call,
+fn copies(dim: u32, line: &Line) -> bool {
+    let mut first = line.values(3, 0);
+    let second = line.values(3, 1);
+    let answer = numbered::copy(
         dim,
-        number_at(words, counts, 0),
-        value_at(words, place(words, first_at, 1)),
-        &mut first[0..count_at(words, 0)],
-        &values[0..second_count(call, words)],
-        &flags[0..second_count(call, words)],
+        line.number(2),
+        &mut first[..line.count(0)],
+        &second[..line.count(1)],
     );
-    leaves(words, place(words, second_at, counts), number, 0, &first)
+    line.leaves(line.place(3, 2), answer.number(), 0, &first)
 }
 
-fn is_sum(words: [u64; 128], at: usize, answer: Dot) -> bool {
+// A vector, a factor and a second vector, and what a call does with them.
+fn scales<Run: FnOnce(u32, &mut [f64], f64, &[f64]) -> u32>(line: &Line, run: Run) -> bool
+    requires { Run.IsAlwaysCallable run }
+{
+    let mut first = line.values(3, 0);
+    let second = line.values(4, 1);
+    let number = run(
+        line.number(2),
+        &mut first[..line.count(0)],
+        line.value(line.place(3, 1)),
+        &second[..line.count(1)],
+    );
+    line.leaves(line.place(4, 2), number, 0, &first)
+}
+
+// A vector and flags, and what a call does with them.
+fn fixes<Run: FnOnce(u32, &mut [f64], &[i32]) -> u32>(line: &Line, run: Run) -> bool
+    requires { Run.IsAlwaysCallable run }
+{
+    let mut first = line.values(3, 0);
+    let flags = line.flags(3, 1);
+    let number = run(
+        line.number(2),
+        &mut first[..line.count(0)],
+        &flags[..line.count(1)],
+    );
+    line.leaves(line.place(3, 2), number, 0, &first)
+}
+
+fn is_sum(line: &Line, at: usize, answer: Answer<f64>) -> bool {
     match answer {
-        Dot::Sum(sum) => {
-            if !is_answer(words, at, 0) {
-                return false;
-            }
-            words::bits_of(sum) == word_at(words, at, 2)
-        }
-        Dot::Refused(why) => {
-            if !is_answer(words, at, why.number()) {
-                return false;
-            }
-            word_at(words, at, 2) == 0
-        }
+        Ok(sum) => { line.is_answer(at, 0) && words::bits_of(sum) == line.word(after(at, 2)) }
+        Err(why) => line.is_answer(at, why.number()) && line.word(after(at, 2)) == 0,
     }
 }
 
-pub fn dot_agrees(dim: u32, words: [u64; 128]) -> bool {
-    let first = values_of(words, 3, 0);
-    let second = values_of(words, 3, 1);
+fn multiplies(dim: u32, line: &Line) -> bool {
+    let first = line.values(3, 0);
+    let second = line.values(3, 1);
     let answer = numbered::dot(
         dim,
-        number_at(words, 2, 0),
-        &first[0..count_at(words, 0)],
-        &second[0..count_at(words, 1)],
+        line.number(2),
+        &first[..line.count(0)],
+        &second[..line.count(1)],
     );
-    is_sum(words, place(words, 3, 2), answer)
+    is_sum(line, line.place(3, 2), answer)
+}
+
+impl VectorCall {
+    pub fn name(self) -> &'static str {
+        match self {
+            VectorCall::SetZero => "set_zero",
+            VectorCall::Copy => "copy",
+            VectorCall::AddScaledVector => "add_scaled_vector",
+            VectorCall::ScaleAndAddVec => "scale_and_add_vec",
+            VectorCall::SetFixed => "set_fixed",
+            VectorCall::SetFixDofToRhsVector => "set_fix_dof_to_rhs_vector",
+            VectorCall::Dot => "dot",
+        }
+    }
+
+    // A dot product leaves no slice but its sum, which is counted with its numbers.
+    pub fn form(self) -> Form {
+        match self {
+            VectorCall::SetZero => Form::new(1, 1, 0..1),
+            VectorCall::AddScaledVector | VectorCall::ScaleAndAddVec => Form::new(2, 2, 0..1),
+            VectorCall::Dot => Form::new(2, 2, 0..0),
+            _ => Form::new(2, 1, 0..1),
+        }
+    }
+
+    // Whether the call answers as the original: the number, the row and every word that it leaves.
+    pub fn agrees(self, dim: u32, line: &Line) -> bool {
+        match self {
+            VectorCall::SetZero => sets_zero(dim, line),
+            VectorCall::Copy => copies(dim, line),
+            VectorCall::AddScaledVector => scales(line, |n, u: &mut [f64], s, p: &[f64]| {
+                numbered::add_scaled_vector(dim, n, u, s, p).number()
+            }),
+            VectorCall::ScaleAndAddVec => scales(line, |n, p: &mut [f64], s, r: &[f64]| {
+                numbered::scale_and_add_vec(dim, n, p, s, r).number()
+            }),
+            VectorCall::SetFixed => fixes(line, |n, values: &mut [f64], flags: &[i32]| {
+                numbered::set_fixed(dim, n, values, flags).number()
+            }),
+            VectorCall::SetFixDofToRhsVector => fixes(line, |n, rhs: &mut [f64], flags: &[i32]| {
+                numbered::set_fix_dof_to_rhs_vector(dim, n, rhs, flags).number()
+            }),
+            VectorCall::Dot => multiplies(dim, line),
+        }
+    }
 }

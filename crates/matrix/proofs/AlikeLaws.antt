@@ -1,18 +1,19 @@
 -- Values that are alike stay so in sums and products, and one that is no zero is the same. A sum from +0 is like one that begins with its first term.
 -- Assumes nothing.
 use mathlib.Core.Path.{◌≡◌, refl, sym, ap, ◌∙◌, subst}
-use mathlib.Core.Bool.{Bool, true, false, not, ◌&&◌, cond, true≢false}
-use Prim.Native.Nat.{ℕ, zero, suc, ◌+◌, ◌-◌, ◌*◌, ◌^◌, ◌≤◌, ◌<◌}
-use native.Mathlib.Nat.{mul-one, one-mul, zero-mul, mul-zero, zero-add, add-zero, sub-zero, mul-pos, zero-lt-suc}
+use mathlib.Core.Bool.{Bool, true, false, true≢false}
+use Prim.Native.Nat.{ℕ, zero, suc, ◌+◌, ◌*◌, ◌^◌, ◌≤◌, ◌<◌}
+use native.Mathlib.Nat.{mul-one, one-mul, zero-mul, zero-add, add-zero, sub-zero, mul-pos, zero-lt-suc}
 use native.Mathlib.Omega.{arith}
-use lib.IntN.{ℤ, pos, negsuc}
-use lib.Dec.{T, ltb}
+use lib.IntN.{ℤ, pos}
+use lib.Dec.{T}
 use lib.Pow.{pow_pos}
 use borrow.Author.Tests.{lt-ltb, le-ltb}
 use lib.Ieee.{Float, nan, inf, fin, Format, binary32, binary64, unlike, prec, emax, low, up, down, round, sum, add, mul, eq, fits, of_bits}
-use lib.Ieee.Fits.{down_pos, up_pos, round-fits, mul-fits}
-use lib.Ieee.Exact.{HasValue, round_exact}
+use lib.Ieee.Fits.{down_pos, up_pos, round-fits}
+use lib.Ieee.Exact.{round_exact}
 use lib.Ieee.Scale.{round_same}
+use Rattle.blocks.specs.Block.{sum_to, bare_sum}
 use Rattle.matrix.specs.Alike.{Alike, same, zeros}
 use Rattle.matrix.proofs.OwnRound.{held, own_round}
 
@@ -51,7 +52,7 @@ sum_none f true true c h = (true, round_zero f true c h)
 sum_none f false true c h = (false, round_zero f false c h)
 sum_none f true false c h = (false, round_zero f false c h)
 
-by : {x y u v : Float} → x ≡ u → y ≡ v → Alike u v → Alike x y
+pub by : {x y u v : Float} → x ≡ u → y ≡ v → Alike u v → Alike x y
 by {x} {y} {u} {v} p q a = subst (λ (z : Float). Alike z y) (sym p) (subst (λ (z : Float). Alike u z) (sym q) a)
 
 joined : {x y z : Float} → Alike x y → Alike y z → Alike x z
@@ -140,9 +141,11 @@ alike_same f (zeros {s} {t}) h = absurd (go t (ap (eq (fin t 0 (pos 0))) (sym (z
     go true h = true≢false (unfold eq in h)
     go false h = true≢false (unfold eq in h)
 
--- a sum of three terms, from +0 or not
-pub three : (f : Format) (p q r : Float) → T (fits f p) → Alike (add f (add f (add f (of_bits f 0) p) q) r) (add f (add f p q) r)
-three f p q r h = add_left f r (add_left f q (from_zero f p h))
+-- a sum of terms, from +0 or from the first of them on
+pub bare_alike : (f : Format) (n : ℕ) (term : ℕ → Float) → 1 ≤ n → T (fits f (term 0)) → Alike (sum_to f n term) (bare_sum f n term)
+bare_alike f zero term some h = absurd (omega (arith, some))
+bare_alike f (suc zero) term some h = from_zero f (term 0) h
+bare_alike f (suc (suc m)) term some h = add_left f (term (suc m)) (bare_alike f (suc m) term (omega arith) h)
 
 -- alike terms are added, the right one scaled
 pub step : (f : Format) (alpha : Float) {s t u v : Float} → Alike s t → Alike u v → Alike (add f s (mul f u alpha)) (add f t (mul f v alpha))

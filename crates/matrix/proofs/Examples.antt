@@ -1,11 +1,11 @@
 -- Small products computed from the definition: the order of the steps, and an old infinity under a beta of 0.
 -- Assumes nothing.
 use mathlib.Core.Path.{◌≡◌, refl}
-use mathlib.Core.List.{List, [], ◌∷◌}
-use mathlib.Core.Bool.{true, false}
+use mathlib.Core.List.{[], ◌∷◌}
+use mathlib.Core.Bool.{false}
 use Prim.Native.Nat.{ℕ}
-use lib.IntN.{pos, negsuc}
-use lib.Ieee.{Float, nan, inf, fin, binary64, add, mul, of_bits, of_int, odd, round, units, span, climb, size, sum}
+use lib.IntN.{pos}
+use lib.Ieee.{Float, nan, inf, binary64, add, mul, of_bits, of_int, odd, round, units, span, climb, size, sum}
 use Rattle.base.specs.Each.{each}
 use Rattle.base.specs.Iterate.{steps, iterate}
 use Rattle.blocks.specs.Lent.{put_at}

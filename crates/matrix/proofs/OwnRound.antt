@@ -1,16 +1,16 @@
 -- A value that a format holds is what its own fraction is rounded to.
 -- Assumes nothing.
-use mathlib.Core.Path.{◌≡◌, refl, sym, ap, ◌∙◌, subst}
+use mathlib.Core.Path.{◌≡◌, sym, ap, ◌∙◌, subst}
 use mathlib.Core.Logic.{◌⊎◌, inl, inr}
 use mathlib.Core.Bool.{Bool, true, false, not, ◌&&◌, cond}
-use Prim.Native.Nat.{ℕ, zero, suc, ◌+◌, ◌-◌, ◌*◌, ◌/◌, ◌%◌, ◌^◌, ◌≤◌, ◌<◌}
+use Prim.Native.Nat.{ℕ, suc, ◌+◌, ◌-◌, ◌*◌, ◌/◌, ◌%◌, ◌^◌, ◌≤◌, ◌<◌}
 use native.Mathlib.Nat.{mul_assoc, mul_comm, mul_right_comm, mul-one, one-mul, lt_irrefl, lt_of_lt_of_le, mul-le-mul_right, mul-lt-mul_of_pos_right}
 use native.Mathlib.Omega.{arith}
 use lib.IntN.{ℤ, pos, negsuc}
 use lib.Dec.{T, ltb, leb, eqb, ltb→lt, leb→le, nltb→le}
 use lib.Pow.{pow-add, pow_pos, pow-lt}
 use lib.Ieee.{Float, nan, inf, fin, Format, prec, emax, low, up, down, size, hid, top, round, fits, to_bits, of_bits}
-use lib.Ieee.Fits.{down_pos, up_pos, round-fits, and_l, and_r}
+use lib.Ieee.Fits.{down_pos, round-fits, and_l, and_r}
 use lib.Ieee.Exact.{HasValue, round_exact}
 use lib.Ieee.Nearest.{div_same}
 use lib.Ieee.Bits.{of_bits-to_bits}

@@ -5,7 +5,7 @@ use mathlib.Core.List.{List, [], ◌∷◌, ◌++◌}
 use mathlib.Core.Bool.{Bool, true, false, not, cond}
 use Prim.Native.Nat.{ℕ, ◌/◌}
 use lib.ListN.{length}
-use Rattle.answers.specs.declared.Answer.{Answer}
+use Rattle.answers.specs.Numbers.{Answer}
 use Rattle.answers.specs.Numbers.{number_of}
 use Rattle.answers.specs.Checks.{Check, ◌when◌, first_of, none_holds}
 use Rattle.answers.specs.Promise.{Ends}
@@ -22,19 +22,18 @@ none_left ((k when true) ∷ earlier) later none = none
 none_left ((k when false) ∷ earlier) later none = none_left earlier later none
 
 module _ {A : Type 0} (wrong : Bool) (dim : ℕ) (o cs : List ℕ) (v d : ℕ) (answer : Answer) (new old left : A) where
-  -- k is the number of what the lengths answered, as the code has it
-  module _ (k : ℕ) (is : k ≡ number_of answer) (other : k ≡ 0 → ⊥) where
+  module _ (other : number_of answer ≡ 0 → ⊥) where
     pub matrix_refuses : number_of answer ≡ first_of (byte_checks (length o) (length cs) wrong ++ matrix_lengths dim (length o / 4) (length cs / 4) v d)
         → Ends (byte_checks (length o) (length cs) wrong ++ matrix_checks dim (indexes_in o) (indexes_in cs) v d) answer new old old
     matrix_refuses first =
         ends_earlier (byte_checks (length o) (length cs) wrong ++ matrix_lengths dim (length (indexes_in o)) (length (indexes_in cs)) v d)
-        ((3 when not (valid_pattern (indexes_in o) (indexes_in cs))) ∷ []) answer k new old (rw (length_indexes o, length_indexes cs) first) is other
+        ((3 when not (valid_pattern (indexes_in o) (indexes_in cs))) ∷ []) answer new old (rw (length_indexes o, length_indexes cs) first) other
 
     pub vectors_refuse : (p q : ℕ) → number_of answer ≡ first_of (byte_checks (length o) (length cs) wrong ++ vector_lengths dim (length o / 4) (length cs / 4) v d p q)
         → Ends (byte_checks (length o) (length cs) wrong ++ vector_checks dim (indexes_in o) (indexes_in cs) v d p q) answer new old old
     vectors_refuse p q first =
         ends_earlier (byte_checks (length o) (length cs) wrong ++ vector_lengths dim (length (indexes_in o)) (length (indexes_in cs)) v d p q)
-        ((3 when not (valid_pattern (indexes_in o) (indexes_in cs))) ∷ []) answer k new old (rw (length_indexes o, length_indexes cs) first) is other
+        ((3 when not (valid_pattern (indexes_in o) (indexes_in cs))) ∷ []) answer new old (rw (length_indexes o, length_indexes cs) first) other
 
   pub matrix_decides : first_of (byte_checks (length o) (length cs) wrong ++ matrix_lengths dim (length o / 4) (length cs / 4) v d) ≡ 0
       → Ends (matrix_checks dim (indexes_in o) (indexes_in cs) v d) answer new old left

@@ -7,8 +7,8 @@ use Prim.Native.Nat.{ℕ, ◌*◌, ◌/◌}
 use lib.Dec.{eqb}
 use lib.ListN.{length}
 use lib.Ieee.{Float, Format, binary64}
+use Rattle.answers.specs.Numbers.{Answer}
 use Rattle.base.proofs.All.{or_left, or_right}
-use Rattle.answers.specs.declared.Answer.{Answer}
 use Rattle.answers.specs.Numbers.{number_of}
 use Rattle.answers.specs.Checks.{Check, ◌when◌, first_of, none_holds}
 use Rattle.answers.specs.Limits.{outside_of}

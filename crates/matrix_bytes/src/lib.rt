@@ -18,8 +18,8 @@ ghost use Rattle.matrix_bytes.specs.Checks.{misshapen, misshapen_vectors};
 ghost use Rattle.matrix_bytes.specs.Rooms.{HeldMatrix, FilledMatrix, is_many};
 
 use answers::Answer;
-use matrix::unchecked::{check_matrix, check_vectors};
 use numbered::is_no_dim;
+use numbered::unchecked::{check_matrix, check_vectors};
 use pattern_bytes::unchecked::decode_pattern;
 use pattern_bytes::{check_bytes, is_broken_pattern, is_broken_value};
 use unchecked::{decode_both, encode_if_done};
@@ -69,17 +69,8 @@ pub fn check_matrix_bytes(
         ++ matrix_lengths dim (offsets / 4) (columns / 4) (values / 8) (diagonal / 8)) }
 {
     let wrong = is_misshapen(dim, offsets, columns, values, diagonal);
-    let answer = check_bytes(offsets, columns, wrong);
-    if answer.number() != 0 {
-        return answer;
-    }
-    check_matrix(
-        dim as usize,
-        offsets / 4,
-        columns / 4,
-        values / 8,
-        diagonal / 8,
-    )
+    check_bytes(offsets, columns, wrong)?;
+    check_matrix(dim, offsets / 4, columns / 4, values / 8, diagonal / 8)
 }
 
 // The same with two more slices of `first` and `second` words, where `broken` says whether their bytes make no whole words.
@@ -97,12 +88,9 @@ pub fn check_vector_bytes(
         ++ vector_lengths dim (offsets / 4) (columns / 4) (values / 8) (diagonal / 8) first second) }
 {
     let wrong = is_misshapen(dim, offsets, columns, values, diagonal);
-    let answer = check_bytes(offsets, columns, either(wrong, broken));
-    if answer.number() != 0 {
-        return answer;
-    }
+    check_bytes(offsets, columns, either(wrong, broken))?;
     check_vectors(
-        dim as usize,
+        dim,
         offsets / 4,
         columns / 4,
         values / 8,
@@ -255,7 +243,7 @@ pub fn mult_vec(
         y.old y.new }
 {
     let broken = is_broken_pair(y.len(), x.len());
-    let answer = check_vector_bytes(
+    check_vector_bytes(
         dim,
         offsets.len(),
         columns.len(),
@@ -264,10 +252,7 @@ pub fn mult_vec(
         broken,
         y.len() / 8,
         x.len() / 8,
-    );
-    if answer.number() != 0 {
-        return answer;
-    }
+    )?;
     if is_many(offsets.len(), columns.len()) {
         return mult_vec_in_full_room(y, dim, beta, alpha, offsets, columns, values, diagonal, x);
     }

@@ -6,7 +6,7 @@ ghost use Rattle.answers.specs.Numbers.{number_of};
 ghost use Rattle.wire.specs.Bytes.{values_in};
 ghost use Rattle.matrix_bytes.specs.Rooms.{written};
 
-use answers::Answer;
+use answers::{Answer, Numbered};
 use wire::unchecked::{decode, encode};
 
 // Two slices of values, decoded into room that has as many.

@@ -4,8 +4,10 @@
 
 ghost use Rattle.std.specs.Prelude.{◌≤◌, ◌+◌};
 
+use answers::Numbered;
+use blocks::{One, Three, Two};
 use limits::Seen;
-use limits::filled::{fill, is_matrix_filled, is_vector_filled};
+use limits::filled::{fill, is_filled};
 use limits::ring::{fill_columns, fill_offsets};
 use limits::sizes::{values_a_block, values_a_row};
 
@@ -19,9 +21,9 @@ fn mult_vec(
     x: &[f64],
 ) -> u32 {
     match dim {
-        1 => matrix::mult_vec_1(offsets, columns, values, diagonal, y, 0.5, 2.0, x).number(),
-        2 => matrix::mult_vec_2(offsets, columns, values, diagonal, y, 0.5, 2.0, x).number(),
-        _ => matrix::mult_vec_3(offsets, columns, values, diagonal, y, 0.5, 2.0, x).number(),
+        1 => matrix::mult_vec::<One>(offsets, columns, values, diagonal, y, 0.5, 2.0, x).number(),
+        2 => matrix::mult_vec::<Two>(offsets, columns, values, diagonal, y, 0.5, 2.0, x).number(),
+        _ => matrix::mult_vec::<Three>(offsets, columns, values, diagonal, y, 0.5, 2.0, x).number(),
     }
 }
 
@@ -33,9 +35,9 @@ fn set_zero(
     diagonal: &mut [f64],
 ) -> u32 {
     match dim {
-        1 => matrix::set_zero_1(offsets, columns, values, diagonal).number(),
-        2 => matrix::set_zero_2(offsets, columns, values, diagonal).number(),
-        _ => matrix::set_zero_3(offsets, columns, values, diagonal).number(),
+        1 => matrix::set_zero::<One>(offsets, columns, values, diagonal).number(),
+        2 => matrix::set_zero::<Two>(offsets, columns, values, diagonal).number(),
+        _ => matrix::set_zero::<Three>(offsets, columns, values, diagonal).number(),
     }
 }
 
@@ -48,9 +50,9 @@ fn set_fixed_bc(
     columns: &[u32],
 ) -> u32 {
     match dim {
-        1 => fixing::set_fixed_bc_1(7.0, flags, diagonal, values, offsets, columns).number(),
-        2 => fixing::set_fixed_bc_2(7.0, flags, diagonal, values, offsets, columns).number(),
-        _ => fixing::set_fixed_bc_3(7.0, flags, diagonal, values, offsets, columns).number(),
+        1 => fixing::set_fixed_bc::<One>(7.0, flags, diagonal, values, offsets, columns).number(),
+        2 => fixing::set_fixed_bc::<Two>(7.0, flags, diagonal, values, offsets, columns).number(),
+        _ => fixing::set_fixed_bc::<Three>(7.0, flags, diagonal, values, offsets, columns).number(),
     }
 }
 
@@ -195,7 +197,7 @@ fn try_mult_vec(dim: usize, case: usize) -> Seen {
     );
     Seen {
         number,
-        kept: is_vector_filled(&y),
+        kept: is_filled(&y),
     }
 }
 
@@ -218,7 +220,7 @@ fn try_set_zero(dim: usize, case: usize) -> Seen {
     );
     Seen {
         number,
-        kept: is_matrix_filled(&values, &diagonal),
+        kept: is_filled(&values) && is_filled(&diagonal),
     }
 }
 
@@ -244,23 +246,55 @@ fn try_set_fixed_bc(dim: usize, case: usize) -> Seen {
     );
     Seen {
         number,
-        kept: is_matrix_filled(&values, &diagonal),
+        kept: is_filled(&values) && is_filled(&diagonal),
     }
 }
 
-// Call 0 is mult_vec, 1 set_zero, 2 set_fixed_bc.
-pub fn try_case(call: usize, dim: usize, case: usize) -> Seen {
-    match call {
-        0 => try_mult_vec(dim, case),
-        1 => try_set_zero(dim, case),
-        _ => try_set_fixed_bc(dim, case),
+#[derive(Clone, Copy)]
+pub enum MatrixCall {
+    MultVec,
+    SetZero,
+    SetFixedBc,
+}
+
+impl MatrixCall {
+    pub const ALL: [MatrixCall; 3] = [
+        MatrixCall::MultVec,
+        MatrixCall::SetZero,
+        MatrixCall::SetFixedBc,
+    ];
+
+    // The call's name, up to its N.
+    pub fn name(self) -> &'static str {
+        match self {
+            MatrixCall::MultVec => "mult_vec_",
+            MatrixCall::SetZero => "set_zero_",
+            MatrixCall::SetFixedBc => "set_fixed_bc_",
+        }
+    }
+
+    // The first case past those of the call's slices.
+    pub fn slices_end(self) -> usize {
+        match self {
+            MatrixCall::MultVec => 9,
+            MatrixCall::SetZero => 5,
+            MatrixCall::SetFixedBc => 7,
+        }
+    }
+
+    pub fn try_case(self, dim: usize, case: usize) -> Seen {
+        match self {
+            MatrixCall::MultVec => try_mult_vec(dim, case),
+            MatrixCall::SetZero => try_set_zero(dim, case),
+            MatrixCall::SetFixedBc => try_set_fixed_bc(dim, case),
+        }
     }
 }
 
 // Two rows, (5, 2) and (3, 7), by (1, 10), tripled and added to twice (100, 200): 275 and 619.
 pub fn product() -> [f64; 2] {
     let mut y = [100.0, 200.0];
-    matrix::mult_vec_1(
+    let _ = matrix::mult_vec::<One>(
         &[0, 1, 2],
         &[1, 0],
         &[2.0, 3.0],
@@ -276,7 +310,7 @@ pub fn product() -> [f64; 2] {
 // One row of 5 by 1, added to 0 times an infinity.
 pub fn product_over_infinity() -> [f64; 1] {
     let mut y = [1.0 / 0.0];
-    matrix::mult_vec_1(&[0, 0], &[], &[], &[5.0], &mut y, 0.0, 1.0, &[1.0]);
+    let _ = matrix::mult_vec::<One>(&[0, 0], &[], &[], &[5.0], &mut y, 0.0, 1.0, &[1.0]);
     y
 }
 
@@ -291,7 +325,7 @@ pub struct Fixed {
 pub fn fixed_pair() -> Fixed {
     let mut diagonal = [1.0, 2.0, 3.0, 4.0, 5.0, 6.0, 7.0, 8.0];
     let mut values = [1.0, 2.0, 3.0, 4.0, 5.0, 6.0, 7.0, 8.0];
-    fixing::set_fixed_bc_2(
+    let _ = fixing::set_fixed_bc::<Two>(
         7.0,
         &[0, -1, 0, 0],
         &mut diagonal,

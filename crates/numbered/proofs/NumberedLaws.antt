@@ -7,10 +7,10 @@ use Prim.Native.Nat.{ℕ, zero, suc}
 use native.Mathlib.Omega.{arith}
 use lib.Dec.{ltb}
 use borrow.Author.Tests.{lt-ltb, le-ltb, ltb-false}
+use Rattle.std.specs.Prelude.{Err}
+use Rattle.answers.specs.Numbers.{Answer}
 use Rattle.base.proofs.All.{or_left, or_right}
 use Rattle.answers.specs.declared.Refusal.{Refusal}
-use Rattle.answers.specs.declared.Answer.{Answer}
-use Rattle.answers.specs.declared.Answer.TheVariants.{Refused}
 use Rattle.answers.specs.Numbers.{refusal_number}
 use Rattle.answers.specs.Checks.{Check, ◌when◌}
 use Rattle.answers.specs.Limits.{outside_of}
@@ -49,12 +49,12 @@ other_dim (suc (suc (suc (suc d)))) one two three =
     rw (le-ltb (suc (suc (suc (suc d)))) 1 (omega arith), lt-ltb 3 (suc (suc (suc (suc d)))) (omega arith))
 
 refused_there : {A : Type 0} (large outside : Bool) (later : List Check) (why : Refusal) (new old : A) → refusal_number why ≡ cond large 1 2 → outside ≡ true
-    → Ends ((1 when large) ∷ (2 when outside) ∷ later) (Refused why) new old old
+    → Ends ((1 when large) ∷ (2 when outside) ∷ later) (Err why) new old old
 refused_there true outside later why new old number out = record { number = number; lent = refl }
 refused_there false outside later why new old number out = record { number = rw out number; lent = rw out }
 
 -- at no N
 pub at_no_dim : {A : Type 0} (d : ℕ) → (d ≡ 1 → ⊥) → (d ≡ 2 → ⊥) → (d ≡ 3 → ⊥) → (large : Bool) (later : List Check) (why : Refusal)
-    → refusal_number why ≡ cond large 1 2 → (new old : A) → Ends ((1 when large) ∷ (2 when outside_of 1 3 d) ∷ later) (Refused why) new old old
+    → refusal_number why ≡ cond large 1 2 → (new old : A) → Ends ((1 when large) ∷ (2 when outside_of 1 3 d) ∷ later) (Err why) new old old
 at_no_dim d one two three large later why number new old =
     refused_there large (outside_of 1 3 d) later why new old number (other_dim d one two three)

@@ -2,6 +2,8 @@
 // A call that refuses changes nothing.
 #![tactic(auto)]
 
+pub mod unchecked;
+
 ghost use Rattle.std.specs.Prelude.{◌≡◌, List, ◌++◌, cond, length, Float};
 ghost use Rattle.std.specs.Float.{binary64};
 ghost use Rattle.answers.specs.Numbers.{refusal_number};
@@ -18,6 +20,7 @@ ghost use Rattle.elements.specs.Checks.{merge_checks, blkcsr_checks};
 ghost use Rattle.numbered.specs.Checks.{dim_checks};
 
 use answers::{Answer, Refusal};
+use blocks::{One, Three, Two};
 use patterns::is_too_large;
 
 // Whether N is none of 1, 2, 3.
@@ -58,10 +61,10 @@ pub fn mult_vec(
         y.old y.new }
 {
     match dim {
-        1 => matrix::mult_vec_1(offsets, columns, values, diagonal, y, beta, alpha, x),
-        2 => matrix::mult_vec_2(offsets, columns, values, diagonal, y, beta, alpha, x),
-        3 => matrix::mult_vec_3(offsets, columns, values, diagonal, y, beta, alpha, x),
-        _ => Answer::Refused(refusal(offsets.len(), columns.len())),
+        1 => matrix::mult_vec::<One>(offsets, columns, values, diagonal, y, beta, alpha, x),
+        2 => matrix::mult_vec::<Two>(offsets, columns, values, diagonal, y, beta, alpha, x),
+        3 => matrix::mult_vec::<Three>(offsets, columns, values, diagonal, y, beta, alpha, x),
+        _ => Err(refusal(offsets.len(), columns.len())),
     }
 }
 
@@ -79,10 +82,10 @@ pub fn set_zero(
         (values.old, diagonal.old) (values.new, diagonal.new) }
 {
     match dim {
-        1 => matrix::set_zero_1(offsets, columns, values, diagonal),
-        2 => matrix::set_zero_2(offsets, columns, values, diagonal),
-        3 => matrix::set_zero_3(offsets, columns, values, diagonal),
-        _ => Answer::Refused(refusal(offsets.len(), columns.len())),
+        1 => matrix::set_zero::<One>(offsets, columns, values, diagonal),
+        2 => matrix::set_zero::<Two>(offsets, columns, values, diagonal),
+        3 => matrix::set_zero::<Three>(offsets, columns, values, diagonal),
+        _ => Err(refusal(offsets.len(), columns.len())),
     }
 }
 
@@ -102,10 +105,10 @@ pub fn set_fixed_bc(
         (diagonal.old, values.old) (diagonal.new, values.new) }
 {
     match dim {
-        1 => fixing::set_fixed_bc_1(val_dia, flags, diagonal, values, offsets, columns),
-        2 => fixing::set_fixed_bc_2(val_dia, flags, diagonal, values, offsets, columns),
-        3 => fixing::set_fixed_bc_3(val_dia, flags, diagonal, values, offsets, columns),
-        _ => Answer::Refused(refusal(offsets.len(), columns.len())),
+        1 => fixing::set_fixed_bc::<One>(val_dia, flags, diagonal, values, offsets, columns),
+        2 => fixing::set_fixed_bc::<Two>(val_dia, flags, diagonal, values, offsets, columns),
+        3 => fixing::set_fixed_bc::<Three>(val_dia, flags, diagonal, values, offsets, columns),
+        _ => Err(refusal(offsets.len(), columns.len())),
     }
 }
 
@@ -126,10 +129,10 @@ pub fn merge(
         (diagonal.old, values.old) (diagonal.new, values.new) }
 {
     match dim {
-        1 => elements::merge_1(nodes, element, offsets, columns, diagonal, values),
-        2 => elements::merge_2(nodes, element, offsets, columns, diagonal, values),
-        3 => elements::merge_3(nodes, element, offsets, columns, diagonal, values),
-        _ => Answer::Refused(refusal(offsets.len(), columns.len())),
+        1 => elements::merge::<One>(nodes, element, offsets, columns, diagonal, values),
+        2 => elements::merge::<Two>(nodes, element, offsets, columns, diagonal, values),
+        3 => elements::merge::<Three>(nodes, element, offsets, columns, diagonal, values),
+        _ => Err(refusal(offsets.len(), columns.len())),
     }
 }
 
@@ -150,9 +153,9 @@ pub fn blkcsr(
         values.old values.new }
 {
     match dim {
-        1 => elements::blkcsr_1(rows, cols, element, offsets, columns, values),
-        2 => elements::blkcsr_2(rows, cols, element, offsets, columns, values),
-        3 => elements::blkcsr_3(rows, cols, element, offsets, columns, values),
-        _ => Answer::Refused(refusal(offsets.len(), columns.len())),
+        1 => elements::blkcsr::<One>(rows, cols, element, offsets, columns, values),
+        2 => elements::blkcsr::<Two>(rows, cols, element, offsets, columns, values),
+        3 => elements::blkcsr::<Three>(rows, cols, element, offsets, columns, values),
+        _ => Err(refusal(offsets.len(), columns.len())),
     }
 }

@@ -9,11 +9,11 @@ use lib.Dec.{eqb}
 use lib.ListN.{length, get_or}
 use lib.Ieee.{Format}
 use borrow.Author.Tests.{ne_eqb}
+use Rattle.std.specs.Prelude.{Err}
+use Rattle.answers.specs.Numbers.{Answer}
 use Rattle.answers.specs.declared.Refusal.{Refusal}
 use Rattle.answers.specs.declared.Refusal.TheVariants.{Size, Shape}
-use Rattle.answers.specs.declared.Answer.{Answer}
-use Rattle.answers.specs.declared.Answer.TheVariants.{Refused}
-use Rattle.answers.specs.Numbers.{number_of, refusal_number, row_of}
+use Rattle.answers.specs.Numbers.{number_of, refusal_number, row_of, refusal_row}
 use Rattle.answers.specs.Checks.{Check, ◌when◌, first_of, none_holds}
 use Rattle.answers.specs.Limits.{outside_of}
 use Rattle.answers.proofs.SameAnswer.{same_number}
@@ -34,9 +34,9 @@ first_of_lem true rows = refl
 first_of_lem false rows = refl
 
 -- 1 and 2 carry none
-unrowed : (large : Bool) (why : Refusal) → refusal_number why ≡ cond large 1 2 → row_of (Refused why) ≡ 0
-unrowed true why is = ap row_of (same_number (Refused why) (Refused Size) is (λ nine. omega (arith, is, nine)))
-unrowed false why is = ap row_of (same_number (Refused why) (Refused Shape) is (λ nine. omega (arith, is, nine)))
+unrowed : (large : Bool) (why : Refusal) → refusal_number why ≡ cond large 1 2 → refusal_row why ≡ 0
+unrowed true why is = ap row_of (same_number (Err why) (Err Size) is (λ nine. omega (arith, is, nine)))
+unrowed false why is = ap row_of (same_number (Err why) (Err Shape) is (λ nine. omega (arith, is, nine)))
 
 -- ---- a call that an earlier check refuses
 
@@ -91,10 +91,10 @@ small_number false k j is e one two = two (sym e ∙ is)
 
 pub factored_at_no_dim : {A : Type 0} (f : Format) (n : ℕ) → (n ≡ 1 → ⊥) → (n ≡ 2 → ⊥) → (n ≡ 3 → ⊥) → (t : FactorPattern) (s : FactorValues) (why : Refusal) (new old : A)
     → refusal_number why ≡ cond (too_large (length t.offsets) (length t.columns)) 1 2
-    → Factored f (dim_checks n (length t.offsets) (length t.columns)) n t s (number_of (Refused why)) (row_of (Refused why)) new old old
+    → Factored f (dim_checks n (length t.offsets) (length t.columns)) n t s (refusal_number why) (refusal_row why) new old old
 factored_at_no_dim f n one two three t s why new old is =
     let large = too_large (length t.offsets) (length t.columns) in
-    factored_refused f (dim_checks n (length t.offsets) (length t.columns)) n t s (refusal_number why) (row_of (Refused why)) new old
+    factored_refused f (dim_checks n (length t.offsets) (length t.columns)) n t s (refusal_number why) (refusal_row why) new old
     (refused_first large (outside_of 1 3 n) (decompose_checks f n t s) (refusal_number why) is (other_dim n one two three))
     (λ e. small_number large (refusal_number why) 0 is e (λ z. absurd (omega (arith, z))) (λ z. absurd (omega (arith, z))))
     (λ e. small_number large (refusal_number why) 9 is e (λ z. absurd (omega (arith, z))) (λ z. absurd (omega (arith, z)))) (unrowed large why is)

@@ -17,13 +17,10 @@ ghost use Rattle.numbered.specs.Checks.{dim_checks};
 ghost use Rattle.numbered_factors.specs.Calls.{Factored, copy_dim_checks};
 
 use answers::{Answer, Refusal};
-use copying::{copy_value_1, copy_value_2, copy_value_3};
-use decompose::{decompose_1, decompose_2, decompose_3};
+use blocks::{One, Three, Two};
 use numbered::refusal;
 use patterns::is_too_large;
-use precondition::{
-    solve_preconditioning_vec_1, solve_preconditioning_vec_2, solve_preconditioning_vec_3,
-};
+use precondition::solve_preconditioning_vec as solve;
 
 // vec becomes what the factor solves it to.
 pub fn solve_preconditioning_vec(
@@ -41,10 +38,10 @@ pub fn solve_preconditioning_vec(
         vec.old vec.new }
 {
     match dim {
-        1 => solve_preconditioning_vec_1(vec, offsets, columns, splits, diagonal, values),
-        2 => solve_preconditioning_vec_2(vec, offsets, columns, splits, diagonal, values),
-        3 => solve_preconditioning_vec_3(vec, offsets, columns, splits, diagonal, values),
-        _ => Answer::Refused(refusal(offsets.len(), columns.len())),
+        1 => solve::<One>(vec, offsets, columns, splits, diagonal, values),
+        2 => solve::<Two>(vec, offsets, columns, splits, diagonal, values),
+        3 => solve::<Three>(vec, offsets, columns, splits, diagonal, values),
+        _ => Err(refusal(offsets.len(), columns.len())),
     }
 }
 
@@ -62,10 +59,10 @@ pub fn decompose(
         (factor_of diagonal.old values.old) (factor_of diagonal.new values.new) }
 {
     match dim {
-        1 => decompose_1(offsets, columns, splits, diagonal, values),
-        2 => decompose_2(offsets, columns, splits, diagonal, values),
-        3 => decompose_3(offsets, columns, splits, diagonal, values),
-        _ => Answer::Refused(refusal(offsets.len(), columns.len())),
+        1 => decompose::decompose::<One>(offsets, columns, splits, diagonal, values),
+        2 => decompose::decompose::<Two>(offsets, columns, splits, diagonal, values),
+        3 => decompose::decompose::<Three>(offsets, columns, splits, diagonal, values),
+        _ => Err(refusal(offsets.len(), columns.len())),
     }
 }
 
@@ -98,20 +95,15 @@ pub fn copy_value(
         (diagonal.old, values.old) (diagonal.new, values.new) }
 {
     match dim {
-        1 => copy_value_1(
+        1 => copying::copy_value::<One>(
             starts, entries, a_diagonal, a_values, offsets, columns, splits, diagonal, values,
         ),
-        2 => copy_value_2(
+        2 => copying::copy_value::<Two>(
             starts, entries, a_diagonal, a_values, offsets, columns, splits, diagonal, values,
         ),
-        3 => copy_value_3(
+        3 => copying::copy_value::<Three>(
             starts, entries, a_diagonal, a_values, offsets, columns, splits, diagonal, values,
         ),
-        _ => Answer::Refused(copy_refusal(
-            starts.len(),
-            entries.len(),
-            offsets.len(),
-            columns.len(),
-        )),
+        _ => Err(copy_refusal(starts.len(), entries.len(), offsets.len(), columns.len())),
     }
 }

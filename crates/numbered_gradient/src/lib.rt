@@ -12,10 +12,10 @@ ghost use Rattle.gradient.specs.Answers.{solution_of, plain_run};
 ghost use Rattle.solve_outcomes.specs.Ends.{SolveEnds};
 ghost use Rattle.numbered_gradient.specs.Calls.{plain_call_checks};
 
-use answers::{Iterations, Refusal};
-use gradient::{conjugate_gradient_1, conjugate_gradient_2, conjugate_gradient_3};
+use answers::{Answer, Iterations, Refusal};
+use blocks::{One, Three, Two};
 use patterns::is_too_large;
-use solvers::Solve;
+use solvers::Solution;
 
 // Why a solve at another N refuses: the sizes of its patterns are checked first, and then its limit.
 pub fn solve_refusal(large: bool, limit: u32) -> Refusal
@@ -44,22 +44,22 @@ pub fn conjugate_gradient(
     values: &[f64],
     diagonal: &[f64],
     history: &mut [f64],
-) -> Solve
+) -> Answer<Solution>
     ensures { SolveEnds {A = Lent} (plain_call_checks dim limit (matrix_of offsets.now columns.now values.now diagonal.now) (lent_of r.old u.old ap.old p.old history.old))
         (solution_of binary64 tolerance (plain_run dim limit (matrix_of offsets.now columns.now values.now diagonal.now) tolerance (lent_of r.old u.old ap.old p.old history.old)).history) result
         (left_by (plain_run dim limit (matrix_of offsets.now columns.now values.now diagonal.now) tolerance (lent_of r.old u.old ap.old p.old history.old)) history.old)
         (lent_of r.old u.old ap.old p.old history.old) (lent_of r.new u.new ap.new p.new history.new) }
 {
     match dim {
-        1 => conjugate_gradient_1(
+        1 => gradient::conjugate_gradient::<One>(
             r, u, ap, p, tolerance, limit, offsets, columns, values, diagonal, history,
         ),
-        2 => conjugate_gradient_2(
+        2 => gradient::conjugate_gradient::<Two>(
             r, u, ap, p, tolerance, limit, offsets, columns, values, diagonal, history,
         ),
-        3 => conjugate_gradient_3(
+        3 => gradient::conjugate_gradient::<Three>(
             r, u, ap, p, tolerance, limit, offsets, columns, values, diagonal, history,
         ),
-        _ => Solve::Refused(solve_refusal(is_too_large(offsets.len(), columns.len()), limit)),
+        _ => Err(solve_refusal(is_too_large(offsets.len(), columns.len()), limit)),
     }
 }

@@ -12,13 +12,11 @@ ghost use Rattle.preconditioned_gradient.specs.Answers.{solution_of, preconditio
 ghost use Rattle.solve_outcomes.specs.Ends.{SolveEnds};
 ghost use Rattle.numbered_preconditioned.specs.Calls.{preconditioned_call_checks};
 
+use answers::Answer;
+use blocks::{One, Three, Two};
 use numbered_gradient::solve_refusal;
 use patterns::is_too_large;
-use preconditioned_gradient::{
-    preconditioned_conjugate_gradient_1, preconditioned_conjugate_gradient_2,
-    preconditioned_conjugate_gradient_3,
-};
-use solvers::Solve;
+use solvers::Solution;
 
 // Whether the matrix or its factor is too large.
 pub fn is_either_too_large(starts: usize, entries: usize, offsets: usize, columns: usize) -> bool
@@ -49,22 +47,22 @@ pub fn preconditioned_conjugate_gradient(
     diagonal: &[f64],
     values: &[f64],
     history: &mut [f64],
-) -> Solve
+) -> Answer<Solution>
     ensures { SolveEnds {A = Lent} (preconditioned_call_checks dim limit (matrix_of starts.now entries.now a_values.now a_diagonal.now) (factor_as offsets.now columns.now splits.now diagonal.now values.now) (lent_of r.old x.old pr.old p.old history.old))
         (solution_of binary64 limit (preconditioned_run dim limit (matrix_of starts.now entries.now a_values.now a_diagonal.now) (factor_as offsets.now columns.now splits.now diagonal.now values.now) tolerance (lent_of r.old x.old pr.old p.old history.old)).history) result
         (left_by (preconditioned_run dim limit (matrix_of starts.now entries.now a_values.now a_diagonal.now) (factor_as offsets.now columns.now splits.now diagonal.now values.now) tolerance (lent_of r.old x.old pr.old p.old history.old)) history.old)
         (lent_of r.old x.old pr.old p.old history.old) (lent_of r.new x.new pr.new p.new history.new) }
 {
     match dim {
-        1 => preconditioned_conjugate_gradient_1(
+        1 => preconditioned_gradient::preconditioned_conjugate_gradient::<One>(
             r, x, pr, p, tolerance, limit, starts, entries, a_values, a_diagonal, offsets, columns,
             splits, diagonal, values, history,
         ),
-        2 => preconditioned_conjugate_gradient_2(
+        2 => preconditioned_gradient::preconditioned_conjugate_gradient::<Two>(
             r, x, pr, p, tolerance, limit, starts, entries, a_values, a_diagonal, offsets, columns,
             splits, diagonal, values, history,
         ),
-        3 => preconditioned_conjugate_gradient_3(
+        3 => preconditioned_gradient::preconditioned_conjugate_gradient::<Three>(
             r, x, pr, p, tolerance, limit, starts, entries, a_values, a_diagonal, offsets, columns,
             splits, diagonal, values, history,
         ),
@@ -75,7 +73,7 @@ pub fn preconditioned_conjugate_gradient(
                 offsets.len(),
                 columns.len(),
             );
-            Solve::Refused(solve_refusal(large, limit))
+            Err(solve_refusal(large, limit))
         }
     }
 }

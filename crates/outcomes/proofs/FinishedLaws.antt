@@ -3,7 +3,7 @@
 use mathlib.Core.Path.{◌≡◌, ◌∙◌}
 use mathlib.Core.List.{List}
 use Prim.Native.Nat.{ℕ}
-use Rattle.answers.specs.declared.Answer.{Answer}
+use Rattle.answers.specs.Numbers.{Answer}
 use Rattle.answers.specs.Numbers.{number_of}
 use Rattle.answers.specs.Checks.{Check}
 use Rattle.answers.specs.Promise.{Ends}

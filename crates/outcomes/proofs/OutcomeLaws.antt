@@ -7,8 +7,8 @@ use Prim.Native.Nat.{ℕ, ◌*◌}
 use native.Mathlib.Omega.{arith}
 use lib.Dec.{eqb}
 use lib.Ieee.{Float, Format}
-use Rattle.answers.specs.declared.Answer.{Answer}
-use Rattle.answers.specs.declared.Answer.TheVariants.{Done, Refused}
+use Rattle.std.specs.Prelude.{Ok, Err}
+use Rattle.answers.specs.Numbers.{Answer}
 use Rattle.answers.specs.declared.Refusal.TheVariants.{Size, Limit, Shape, Pattern, Split, Node, NoEntry, NoPlace, Level, Room, Singular}
 use Rattle.answers.specs.Numbers.{number_of, row_of}
 use Rattle.answers.specs.Checks.{Check, first_of, ◌when◌}
@@ -19,18 +19,18 @@ use Rattle.outcomes.specs.declared.Outcome.{Outcome}
 
 -- only 9 carries a row
 pub no_row : (a : Answer) → (number_of a ≡ 9 → ⊥) → row_of a ≡ 0
-no_row Done other = refl
-no_row (Refused Size) other = refl
-no_row (Refused Limit) other = refl
-no_row (Refused Shape) other = refl
-no_row (Refused Pattern) other = refl
-no_row (Refused Split) other = refl
-no_row (Refused Node) other = refl
-no_row (Refused NoEntry) other = refl
-no_row (Refused NoPlace) other = refl
-no_row (Refused Level) other = refl
-no_row (Refused Room) other = refl
-no_row (Refused (Singular row)) other = absurd (other refl)
+no_row (Ok tt) other = refl
+no_row (Err Size) other = refl
+no_row (Err Limit) other = refl
+no_row (Err Shape) other = refl
+no_row (Err Pattern) other = refl
+no_row (Err Split) other = refl
+no_row (Err Node) other = refl
+no_row (Err NoEntry) other = refl
+no_row (Err NoPlace) other = refl
+no_row (Err Level) other = refl
+no_row (Err Room) other = refl
+no_row (Err (Singular row)) other = absurd (other refl)
 
 -- neither of the checks of a vector has the number 9
 not_nine : (a b : Bool) → first_of ((1 when a) ∷ (2 when b) ∷ []) ≡ 9 → ⊥

@@ -5,11 +5,9 @@
 ghost use Rattle.std.specs.Prelude.{◌≡◌};
 ghost use Rattle.std.specs.Float.{binary64};
 ghost use Rattle.answers.specs.Numbers.{number_of, row_of};
-ghost use Rattle.vectors.specs.DotAnswers.{dot_number};
 ghost use Rattle.outcomes.specs.Sums.{sum_of};
 
-use answers::Answer;
-use vectors::Dot;
+use answers::{Answer, Numbered};
 
 // What every entry point answers: document 01's number, and the row that 9 carries.
 #[repr(C)]
@@ -49,16 +47,16 @@ pub fn rowless(answer: Answer) -> Outcome
 }
 
 // The same of a dot product.
-pub fn summed_of(dot: Dot) -> Summed
-    ensures { (result.number ≡ dot_number dot) × (result.row ≡ 0) × (result.sum ≡ sum_of binary64 dot) }
+pub fn summed_of(dot: Answer<f64>) -> Summed
+    ensures { (result.number ≡ number_of dot) × (result.row ≡ 0) × (result.sum ≡ sum_of binary64 dot) }
 {
     match dot {
-        Dot::Sum(sum) => Summed {
+        Ok(sum) => Summed {
             number: 0,
             row: 0,
             sum,
         },
-        Dot::Refused(why) => Summed {
+        Err(why) => Summed {
             number: why.number(),
             row: 0,
             sum: 0.0,

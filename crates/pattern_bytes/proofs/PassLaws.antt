@@ -7,8 +7,8 @@ use Prim.Native.Nat.{ℕ, ◌-◌, ◌*◌, ◌/◌, ◌≤◌}
 use native.Mathlib.Omega.{arith}
 use lib.Dec.{ltb}
 use borrow.Author.Tests.{eqb-true, ltb-false, not-true, not-false}
+use Rattle.answers.specs.Numbers.{Answer}
 use Rattle.base.proofs.All.{and_left, and_right, or_left, or_right}
-use Rattle.answers.specs.declared.Answer.{Answer}
 use Rattle.answers.specs.Numbers.{number_of}
 use Rattle.answers.specs.Checks.{Check, first_of, none_holds}
 use Rattle.answers.proofs.EndLaws.{none_of_zero, refused_earlier, left_to_later}
@@ -20,15 +20,15 @@ use Rattle.wire.specs.Bytes.{words_in, words_to}
 use Rattle.pattern_bytes.specs.Checks.{broken, byte_checks, broken_pattern, broken_factor, row_checks, Held}
 use Rattle.pattern_bytes.proofs.RoomLaws.{whole_indexes}
 
--- ---- the number of a call: k is that of its first checks, as the code has it
+-- ---- the number of a call
 
-module _ (offsets columns : ℕ) (misshapen : Bool) (answer : Answer) (k : ℕ)
-    (first : number_of answer ≡ first_of (byte_checks offsets columns misshapen)) (is : k ≡ number_of answer) where
-  pub stopped : (later : List Check) → (k ≡ 0 → ⊥) → number_of answer ≡ first_of (byte_checks offsets columns misshapen ++ later)
-  stopped later other = first ∙ sym (refused_earlier (byte_checks offsets columns misshapen) later (λ z. other (is ∙ first ∙ z)))
+module _ (offsets columns : ℕ) (misshapen : Bool) (answer : Answer)
+    (first : number_of answer ≡ first_of (byte_checks offsets columns misshapen)) where
+  pub stopped : (later : List Check) → (number_of answer ≡ 0 → ⊥) → number_of answer ≡ first_of (byte_checks offsets columns misshapen ++ later)
+  stopped later other = first ∙ sym (refused_earlier (byte_checks offsets columns misshapen) later (λ z. other (first ∙ z)))
 
-  pub passed : k ≡ 0 → none_holds (byte_checks offsets columns misshapen) ≡ true
-  passed zero_is = none_of_zero (byte_checks offsets columns misshapen) refl (sym first ∙ sym is ∙ zero_is)
+  pub passed : number_of answer ≡ 0 → none_holds (byte_checks offsets columns misshapen) ≡ true
+  passed zero_is = none_of_zero (byte_checks offsets columns misshapen) refl (sym first ∙ zero_is)
 
 pub handed_on : (offsets columns : ℕ) (misshapen : Bool) (later : List Check) (answer : Answer) → none_holds (byte_checks offsets columns misshapen) ≡ true
     → number_of answer ≡ first_of later → number_of answer ≡ first_of (byte_checks offsets columns misshapen ++ later)

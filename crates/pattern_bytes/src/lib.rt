@@ -54,12 +54,12 @@ pub fn check_bytes(offsets: usize, columns: usize, misshapen: bool) -> Answer
     ensures { number_of result ≡ first_of (byte_checks offsets columns misshapen) }
 {
     if is_too_large(offsets / 4, columns / 4) {
-        return Answer::Refused(Refusal::Size);
+        return Err(Refusal::Size);
     }
     if misshapen {
-        return Answer::Refused(Refusal::Shape);
+        return Err(Refusal::Shape);
     }
-    Answer::Done
+    Ok(())
 }
 
 // The call that is asked for, on words.
@@ -151,10 +151,7 @@ fn check_unsplit(kind: Kind, offsets: &[u8], columns: &[u8]) -> Answer
         ++ checks_of kind (indexes_in offsets.now) (indexes_in columns.now) []) }
 {
     let misshapen = is_broken_pattern(offsets.len(), columns.len());
-    let answer = check_bytes(offsets.len(), columns.len(), misshapen);
-    if answer.number() != 0 {
-        return answer;
-    }
+    check_bytes(offsets.len(), columns.len(), misshapen)?;
     let none = [0u8; 1];
     check_kind(kind, offsets, columns, &none[..0])
 }
@@ -200,10 +197,7 @@ pub fn check_factor(offsets: &[u8], columns: &[u8], splits: &[u8]) -> Answer
         ++ factor_checks (indexes_in offsets.now) (indexes_in columns.now) (indexes_in splits.now)) }
 {
     let misshapen = is_broken_factor(offsets.len(), columns.len(), splits.len());
-    let answer = check_bytes(offsets.len(), columns.len(), misshapen);
-    if answer.number() != 0 {
-        return answer;
-    }
+    check_bytes(offsets.len(), columns.len(), misshapen)?;
     check_kind(Kind::Factor, offsets, columns, splits)
 }
 
@@ -251,22 +245,19 @@ fn check_row(columns: usize) -> Answer
     ensures { number_of result ≡ first_of (row_checks columns) }
 {
     if Entries(columns / 4).out_of_range() {
-        return Answer::Refused(Refusal::Size);
+        return Err(Refusal::Size);
     }
     if is_broken_index(columns) {
-        return Answer::Refused(Refusal::Shape);
+        return Err(Refusal::Shape);
     }
-    Answer::Done
+    Ok(())
 }
 
 // A row's columns in rising order.
 pub fn sort_row(columns: &mut [u8]) -> Answer
     ensures { Ends (row_checks (length columns.old)) result (bytes_of_indexes (sort_of (indexes_in columns.old))) columns.old columns.new }
 {
-    let answer = check_row(columns.len());
-    if answer.number() != 0 {
-        return answer;
-    }
+    check_row(columns.len())?;
     sort_whole(columns);
-    answer
+    Ok(())
 }

@@ -77,3 +77,11 @@ entries_offsets o cs valid = and_left (valid_offsets o cs) (all_below (rows_of o
 pub pattern_offsets : (o cs : List ℕ) → valid_pattern o cs ≡ true → valid_offsets o cs ≡ true
 unfolding valid_pattern
 pattern_offsets o cs valid = entries_offsets o cs (and_left (valid_entries o cs) (all_own_absent o cs) valid)
+
+-- so that the ends of its rows are in order, and within the columns
+module _ (o cs : List ℕ) (valid : valid_pattern o cs ≡ true) (i : ℕ) (inside : i < rows_of o) where
+  pub pattern_row_in_order : get_or o i 0 ≤ get_or o (i + 1) 0
+  pattern_row_in_order = offsets_step o cs (pattern_offsets o cs valid) i inside
+
+  pub pattern_row_within : get_or o (i + 1) 0 ≤ length cs
+  pattern_row_within = offset_within o cs (pattern_offsets o cs valid) (i + 1) (omega arith)

@@ -30,12 +30,12 @@ pub fn check_pattern(offsets: &[u32], columns: &[u32]) -> Answer
     ensures { number_of result ≡ first_of (pattern_checks offsets.now columns.now) }
 {
     if is_too_large(offsets.len(), columns.len()) {
-        return Answer::Refused(Refusal::Size);
+        return Err(Refusal::Size);
     }
     if !is_valid_pattern(offsets, columns) {
-        return Answer::Refused(Refusal::Pattern);
+        return Err(Refusal::Pattern);
     }
-    Answer::Done
+    Ok(())
 }
 
 // A pattern in which a row's own column may stand.
@@ -43,12 +43,12 @@ pub fn check_entries(offsets: &[u32], columns: &[u32]) -> Answer
     ensures { number_of result ≡ first_of (entries_checks offsets.now columns.now) }
 {
     if is_too_large(offsets.len(), columns.len()) {
-        return Answer::Refused(Refusal::Size);
+        return Err(Refusal::Size);
     }
     if !is_valid_entries(offsets, columns) {
-        return Answer::Refused(Refusal::Pattern);
+        return Err(Refusal::Pattern);
     }
-    Answer::Done
+    Ok(())
 }
 
 // A factor pattern, with a split to each row.
@@ -56,16 +56,16 @@ pub fn check_factor(offsets: &[u32], columns: &[u32], splits: &[u32]) -> Answer
     ensures { number_of result ≡ first_of (factor_checks offsets.now columns.now splits.now) }
 {
     if is_too_large(offsets.len(), columns.len()) {
-        return Answer::Refused(Refusal::Size);
+        return Err(Refusal::Size);
     }
     if splits.len() != offsets.len() - 1 {
-        return Answer::Refused(Refusal::Shape);
+        return Err(Refusal::Shape);
     }
     if !is_valid_pattern(offsets, columns) {
-        return Answer::Refused(Refusal::Pattern);
+        return Err(Refusal::Pattern);
     }
     if !has_valid_splits(offsets, columns, splits) {
-        return Answer::Refused(Refusal::Split);
+        return Err(Refusal::Split);
     }
-    Answer::Done
+    Ok(())
 }

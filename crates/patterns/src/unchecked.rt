@@ -6,27 +6,21 @@ ghost use Rattle.patterns.specs.Checks.{too_large};
 ghost use Rattle.patterns.specs.Steps.{Ordered, Ready, climbs, eight_climb_at, rows_climb, row_right, rows_right, valid_as, rises_to, seven_rise, first_above, factor_row};
 ghost use Rattle.patterns.specs.Marks.{Below, Marking};
 
-fn wide(x: u32) -> usize
-    ensures { result ≡ x }
-{
-    x as usize
-}
-
 // The loop has no way out in the middle: several offsets are then compared at once, which is some times as fast.
-fn never_fall(offsets: &[u32]) -> bool
+#[tactic(auto, using(crate::proofs::TestLaws::flag_on), unfolding(base::specs::All::all_to, crate::specs::Pattern::never_fall))]
+pub fn never_fall(offsets: &[u32]) -> bool
     requires { 1 ≤ length offsets.now }
     ensures { result ≡ never_fall offsets.now }
 {
     let rows = offsets.len() - 1;
     let mut right = true;
-    let mut i = 0;
-    while i < rows {
+    for i in 0..rows {
         right = right & (offsets[i] <= offsets[i + 1]);
-        i += 1;
     }
     right
 }
 
+#[tactic(auto, using(crate::proofs::OffsetLaws::wrong_first, crate::proofs::OffsetLaws::wrong_order, crate::proofs::OffsetLaws::last_decides))]
 fn has_valid_offsets(offsets: &[u32], columns: &[u32]) -> bool
     requires { 1 ≤ length offsets.now }
     ensures { result ≡ valid_offsets offsets.now columns.now }
@@ -37,7 +31,7 @@ fn has_valid_offsets(offsets: &[u32], columns: &[u32]) -> bool
     if !never_fall(offsets) {
         return false;
     }
-    wide(offsets[offsets.len() - 1]) == columns.len()
+    offsets[offsets.len() - 1] as usize == columns.len()
 }
 
 // Whether the eight columns from place k on climb. There is no branch between the tests, so that several are made at once.
@@ -72,36 +66,35 @@ fn do_eight_climb(row: &[u32], k: usize, least: u32, own: u32, n: u32) -> bool
     (c0 >= least) & (rise & differ)
 }
 
-// The columns from a place on, one at a time.
-fn does_rest_climb(row: &[u32], from: usize, first: u32, own: u32, n: u32) -> bool
-    requires { from ≤ length row.now }
-    ensures { result ≡ climbs n own first (drop from row.now) }
+// What is left of a row, one column at a time.
+#[tactic(auto, using(crate::proofs::ClimbLaws::one_on, crate::proofs::ClimbLaws::one_stops, crate::proofs::ClimbLaws::none_left))]
+fn does_rest_climb(rest: &[u32], first: u32, own: u32, n: u32) -> bool
+    ensures { result ≡ climbs n own first rest.now }
 {
     let mut least = first;
-    let mut k = from;
-    while k < row.len() {
-        let column = row[k];
-        if column < least {
+    for column in rest {
+        if *column < least {
             return false;
         }
-        if column == own {
+        if *column == own {
             return false;
         }
-        if column >= n {
+        if *column >= n {
             return false;
         }
-        least = column + 1;
-        k += 1;
+        least = *column + 1;
     }
     true
 }
 
 // A row of any length: eight columns at a time, then the rest.
+#[tactic(auto, using(crate::proofs::ClimbLaws::eight_passes, crate::proofs::ClimbLaws::eight_stops, crate::proofs::ClimbLaws::eight_last))]
 fn is_climbing_by_eights(row: &[u32], own: u32, n: u32) -> bool
     ensures { result ≡ climbs n own 0 row.now }
 {
     let mut least = 0;
     let mut k = 0;
+    // A step of eight: its tests are made at once.
     while k + 8 <= row.len() {
         if !do_eight_climb(row, k, least, own, n) {
             return false;
@@ -109,11 +102,12 @@ fn is_climbing_by_eights(row: &[u32], own: u32, n: u32) -> bool
         least = row[k + 7] + 1;
         k += 8;
     }
-    does_rest_climb(row, k, least, own, n)
+    does_rest_climb(&row[k..], least, own, n)
 }
 
 // Whether a row rises strictly, has no column `own`, and all are below n. Then it needs no marks, and this is the quickest way to find it valid.
 // Most rows of a plate have eight columns, and one test without a loop takes a quarter less time.
+#[tactic(auto, using(crate::proofs::ClimbLaws::eight_all))]
 fn is_climbing(row: &[u32], own: u32, n: u32) -> bool
     ensures { result ≡ climbs n own 0 row.now }
 {
@@ -130,44 +124,43 @@ fn refused_column(own: u32, n: u32, refused: bool) -> u32
     if refused { own } else { n }
 }
 
+#[tactic(auto, using(crate::proofs::RowLaws::row_in_order, crate::proofs::RowLaws::row_within), unfolding(crate::specs::Steps::rows_climb, base::specs::All::all_to))]
 fn are_climbing_rows(offsets: &[u32], columns: &[u32], refused: bool) -> bool
     requires { Ordered offsets.now columns.now }
     ensures { result ≡ rows_climb refused offsets.now columns.now (rows_of offsets.now) }
 {
     let rows = offsets.len() - 1;
     let n = rows as u32;
-    let mut i = 0;
-    while i < rows {
-        let from = wide(offsets[i]);
-        let to = wide(offsets[i + 1]);
+    for i in 0..rows {
+        let from = offsets[i] as usize;
+        let to = offsets[i + 1] as usize;
         let own = refused_column(i as u32, n, refused);
         if !is_climbing(&columns[from..to], own, n) {
             return false;
         }
-        i += 1;
     }
     true
 }
 
 // Every column is looked at, as every offset is in `never_fall`.
+#[tactic(auto, using(crate::proofs::TestLaws::flag_on), unfolding(base::specs::All::all_to, crate::specs::Pattern::all_below))]
 fn are_below(columns: &[u32], n: u32) -> bool
     ensures { result ≡ all_below n columns.now }
 {
     let mut right = true;
-    let mut e = 0;
-    while e < columns.len() {
-        right = right & (columns[e] < n);
-        e += 1;
+    for column in columns {
+        right = right & (*column < n);
     }
     right
 }
 
 // Marks column k of a row with the row's stamp, unless it has it already, and says which.
+#[tactic(auto, using(crate::proofs::MarkLaws::marked_again, crate::proofs::MarkLaws::column_below))]
 fn is_next_fresh(marks: &mut [u8; 4096], row: &[u32], k: usize, stamp: u8) -> bool
     requires { (k < length row.now) × (all_below 4096 row.now ≡ true) }
     ensures { Marking stamp row.now k (k + 1) result marks.old marks.new }
 {
-    let column = wide(row[k]);
+    let column = row[k] as usize;
     if marks[column] == stamp {
         return false;
     }
@@ -197,12 +190,10 @@ fn are_rest_fresh(marks: &mut [u8; 4096], row: &[u32], from: usize, stamp: u8) -
     requires { (from ≤ length row.now) × (all_below 4096 row.now ≡ true) }
     ensures { Marking stamp row.now from (length row.now) result marks.old marks.new }
 {
-    let mut k = from;
-    while k < row.len() {
+    for k in from..row.len() {
         if !is_next_fresh(marks, row, k, stamp) {
             return false;
         }
-        k += 1;
     }
     true
 }
@@ -213,6 +204,7 @@ fn are_all_fresh(marks: &mut [u8; 4096], row: &[u32], stamp: u8) -> bool
     ensures { Marking stamp row.now 0 (length row.now) result marks.old marks.new }
 {
     let mut k = 0;
+    // A step of four, written out for speed.
     while k + 4 <= row.len() {
         if !are_four_fresh(marks, row, k, stamp) {
             return false;
@@ -260,32 +252,33 @@ fn run_end(first: usize, rows: usize) -> usize
 }
 
 // A run of rows: one array of marks serves all of them, since each has a stamp of its own. The end of a row is kept as the start of the next.
+#[tactic(auto, using(crate::proofs::RowLaws::row_in_order, crate::proofs::RowLaws::row_within, crate::proofs::RowLaws::part_below, crate::proofs::MarkLaws::marks_new))]
 fn is_right_run(offsets: &[u32], columns: &[u32], first: usize, end: usize, refused: bool) -> bool
     requires { (Ready offsets.now columns.now) × (first ≤ end) × (end ≤ first + 255) × (end ≤ rows_of offsets.now) × (rows_right refused offsets.now columns.now first ≡ true) }
     ensures { result ≡ rows_right refused offsets.now columns.now end }
 {
     let mut marks = [0u8; 4096];
     let mut stamp: u8 = 0;
-    let mut i = first;
-    let mut from = wide(offsets[first]);
-    while i < end {
-        let to = wide(offsets[i + 1]);
+    let mut from = offsets[first] as usize;
+    for i in first..end {
+        let to = offsets[i + 1] as usize;
         stamp += 1;
         if !is_right_row(&mut marks, &columns[from..to], i, stamp, refused) {
             return false;
         }
         from = to;
-        i += 1;
     }
     true
 }
 
+#[tactic(auto, using(crate::proofs::RowLaws::rows_stop_at), unfolding(crate::specs::Steps::rows_right, base::specs::All::all_to))]
 fn are_right_rows(offsets: &[u32], columns: &[u32], refused: bool) -> bool
     requires { Ready offsets.now columns.now }
     ensures { result ≡ rows_right refused offsets.now columns.now (rows_of offsets.now) }
 {
     let rows = offsets.len() - 1;
     let mut i = 0;
+    // A step of a run, the last of which is shorter.
     while i < rows {
         let end = run_end(i, rows);
         if !is_right_run(offsets, columns, i, end, refused) {
@@ -297,6 +290,7 @@ fn are_right_rows(offsets: &[u32], columns: &[u32], refused: bool) -> bool
 }
 
 // Rows that all climb are valid. Others may be too: then the marks decide.
+#[tactic(auto, using(crate::proofs::SizeLaws::rows_least, crate::proofs::SizeLaws::rows_most, crate::proofs::RowLaws::wrong_offsets, crate::proofs::RowLaws::wrong_column, crate::proofs::RowLaws::rows_decide, crate::proofs::FastLaws::climbing_valid))]
 fn is_valid(offsets: &[u32], columns: &[u32], refused: bool) -> bool
     requires { too_large (length offsets.now) (length columns.now) ≡ false }
     ensures { result ≡ valid_as refused offsets.now columns.now }
@@ -350,20 +344,20 @@ fn does_rest_rise(row: &[u32], from: usize) -> bool
     requires { (from ≤ length row.now - 1) × (rises_to row.now from ≡ true) }
     ensures { result ≡ rises row.now }
 {
-    let mut k = from;
-    while k + 1 < row.len() {
-        if row[k] >= row[k + 1] {
+    for k in from + 1..row.len() {
+        if row[k - 1] >= row[k] {
             return false;
         }
-        k += 1;
     }
     true
 }
 
+#[tactic(auto, using(crate::proofs::RiseLaws::rises_on, crate::proofs::RiseLaws::falls_on), unfolding(base::specs::All::all_to))]
 fn rises_strictly(row: &[u32]) -> bool
     ensures { result ≡ rises row.now }
 {
     let mut k = 0;
+    // A step of seven: its tests are made at once.
     while k + 8 <= row.len() {
         if !do_seven_rise(row, k) {
             return false;
@@ -374,6 +368,7 @@ fn rises_strictly(row: &[u32]) -> bool
 }
 
 // Whether place k of a row that rises is the first whose column exceeds `own`, or its end: the columns on both sides of it tell.
+#[tactic(auto, using(crate::proofs::SplitLaws::not_past, crate::proofs::SplitLaws::not_below, crate::proofs::SplitLaws::is_first, crate::proofs::SplitLaws::before_decides))]
 fn is_first_above(row: &[u32], own: u32, k: usize) -> bool
     requires { rises row.now ≡ true }
     ensures { result ≡ eqb k (first_above own row.now) }
@@ -393,6 +388,7 @@ fn is_first_above(row: &[u32], own: u32, k: usize) -> bool
 }
 
 // Whether a row that begins at place `first` rises strictly and has a true split.
+#[tactic(auto, using(crate::proofs::FactorLaws::falls, crate::proofs::FactorLaws::split_before, crate::proofs::FactorLaws::place_decides))]
 fn is_factor_row(row: &[u32], own: u32, first: usize, split: usize) -> bool
     ensures { result ≡ factor_row own first split row.now }
 {
@@ -406,19 +402,18 @@ fn is_factor_row(row: &[u32], own: u32, first: usize, split: usize) -> bool
 }
 
 // Sorted rows and true splits, of a pattern that is valid.
+#[tactic(auto, using(base::proofs::All::all_more, base::proofs::All::all_stop, crate::proofs::FactorLaws::all_rows, crate::proofs::FactorLaws::row_tested, crate::proofs::OffsetLaws::pattern_row_in_order, crate::proofs::OffsetLaws::pattern_row_within), unfolding(base::specs::All::all_to))]
 pub fn has_valid_splits(offsets: &[u32], columns: &[u32], splits: &[u32]) -> bool
     requires { (too_large (length offsets.now) (length columns.now) ≡ false) × (length splits.now ≡ rows_of offsets.now) × (valid_pattern offsets.now columns.now ≡ true) }
     ensures { result ≡ valid_splits offsets.now columns.now splits.now }
 {
-    let mut i = 0;
-    while i < splits.len() {
-        let first = wide(offsets[i]);
-        let end = wide(offsets[i + 1]);
-        let split = wide(splits[i]);
+    for i in 0..splits.len() {
+        let first = offsets[i] as usize;
+        let end = offsets[i + 1] as usize;
+        let split = splits[i] as usize;
         if !is_factor_row(&columns[first..end], i as u32, first, split) {
             return false;
         }
-        i += 1;
     }
     true
 }

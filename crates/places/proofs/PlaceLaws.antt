@@ -1,6 +1,6 @@
 -- A turn of marking leaves the marks of earlier columns, and a turn of a lookup passes a place that is not the column's.
 -- Assumes nothing.
-use mathlib.Core.Path.{◌≡◌, refl, sym, ap, ◌∙◌}
+use mathlib.Core.Path.{◌≡◌}
 use mathlib.Core.List.{List}
 use mathlib.Core.Logic.{⊎_elim}
 use mathlib.Core.Bool.{true}
@@ -15,7 +15,7 @@ use Rattle.base.proofs.All.{all_at}
 use Rattle.patterns.specs.Pattern.{all_below, once}
 use Rattle.rows.specs.Lookup.{no_place, place_in}
 use Rattle.rows.proofs.RowLaws.{once_at, absent_of}
-use Rattle.rows.proofs.LookupLaws.{found_once, found_nowhere}
+use Rattle.rows.proofs.LookupLaws.{found_nowhere}
 use Rattle.places.specs.Places.{Reached, MarkedTo, Marked}
 
 pub small : (row : List ℕ) → all_below 4096 row ≡ true → (k : ℕ) → k < length row → get_or row k 0 < 4096

@@ -6,37 +6,26 @@ ghost use Rattle.places.specs.Places.{Markable, Marked};
 
 use answers::Index;
 
-fn wide(x: u32) -> usize
-    ensures { result ≡ x }
-{
-    x as usize
-}
-
-fn wide_mark(x: u8) -> usize
-    ensures { result ≡ x }
-{
-    x as usize
-}
-
 // Each column of a row is marked. With whole places for marks the array would take 8 KiB.
+#[tactic(auto, using(crate::proofs::PlaceLaws::small))]
 pub fn mark_row(marks: &mut [u8; 4096], row: &[u32])
     requires { (length marks.old ≡ 4096) × (Markable row.now) }
     ensures { Marked row.now marks.new }
 {
-    let mut k = 0;
-    while k < row.len() {
-        let column = wide(row[k]);
+    for k in 0..row.len() {
+        let column = row[k] as usize;
         marks[column] = (k % 256) as u8;
-        k += 1;
     }
 }
 
 // The place of a column in a row that was marked. Most rows are so short that there is one place to look at; the longest has 16.
+#[tactic(auto, using(rows::proofs::LookupLaws::found_once, crate::proofs::PlaceLaws::ahead_none))]
 pub fn place_of(marks: &[u8; 4096], row: &[u32], column: u32) -> u32
     requires { (Markable row.now) × (Marked row.now marks.now) × (column < 4096) }
     ensures { result ≡ place_in row.now column }
 {
-    let mut guess = wide_mark(marks[wide(column)]);
+    let mut guess = marks[column as usize] as usize;
+    // A step of 256: places that have the same low byte.
     while guess < row.len() {
         if row[guess] == column {
             return guess as u32;

@@ -9,20 +9,19 @@ use lib.Dec.{ltb, eqb}
 use lib.ListN.{length}
 use lib.Ieee.{binary64}
 use borrow.Author.Tests.{le-ltb}
+use Rattle.std.specs.Prelude.{Ok, Err}
+use Rattle.answers.specs.Numbers.{Answer, AnswerOf}
 use Rattle.base.proofs.All.{or_left, or_right}
 use Rattle.answers.specs.declared.Refusal.{Refusal}
-use Rattle.answers.specs.declared.Answer.{Answer}
-use Rattle.answers.specs.declared.Answer as Answers
-use Rattle.answers.specs.Numbers.{number_of}
+use Rattle.answers.specs.Numbers.{number_of, refusal_number}
 use Rattle.answers.specs.Checks.{◌when◌, first_of}
 use Rattle.answers.specs.Limits.{iterations_out_of_range}
+use Rattle.answers.proofs.SameAnswer.{refusal_counts}
 use Rattle.answers.proofs.EndLaws.{none_of_zero}
 use Rattle.patterns.specs.Checks.{too_large}
 use Rattle.matrix.specs.Checks.{wrong_values, matrix_lengths}
 use Rattle.factor_check.specs.Checks.{wrong_factor}
 use Rattle.solvers.specs.declared.Solution.{Solution}
-use Rattle.solvers.specs.declared.Solve.{Solve}
-use Rattle.solvers.specs.declared.Solve.TheVariants.{Refused}
 use Rattle.solvers.specs.Checks.{wrong_vectors, preconditioned_lengths, preconditioned_rules}
 use Rattle.solve_outcomes.specs.Ends.{early_checks, SolveEnds}
 use Rattle.solve_outcomes.proofs.EndLaws.{solve_earlier, solve_later}
@@ -40,7 +39,7 @@ use Rattle.factor_bytes.proofs.CheckLaws.{factor_in_full}
 use Rattle.solver_bytes.specs.Lent.{LentBytes}
 use Rattle.solver_bytes.specs.Checks.{broken_vectors}
 use Rattle.solver_bytes.specs.Rooms.{HeldVectors}
-use Rattle.solver_bytes.proofs.VectorLaws.{held_vectors, limit_most, not_zero}
+use Rattle.solver_bytes.proofs.VectorLaws.{held_vectors, limit_most}
 use Rattle.preconditioned_room.specs.Rooms.{PreconditionedPassed}
 use Rattle.preconditioned_bytes.specs.Checks.{misshapen_preconditioned, preconditioned_byte_checks}
 
@@ -126,30 +125,30 @@ all_in_room dim limit st en av ad o cs s d v r x pr p h zero_is =
 
 -- ---- the ends of the call: its lengths refuse it, or its words decide
 
-module _ (dim limit : ℕ) (st en av ad o cs s d v : List ℕ) (old : LentBytes) (solution : Solution) (answer : Answer) (new left : LentBytes)
-    (first : number_of answer ≡ first_of (early_checks (too_large (length st / 4) (length en / 4) || too_large (length o / 4) (length cs / 4)) limit
+module _ (dim limit : ℕ) (st en av ad o cs s d v : List ℕ) (old : LentBytes) (solution : Solution) (new left : LentBytes) (number : ℕ)
+    (first : number ≡ first_of (early_checks (too_large (length st / 4) (length en / 4) || too_large (length o / 4) (length cs / 4)) limit
     (misshapen_preconditioned dim (length st) (length en) (length av) (length ad) (length o) (length cs) (length s) (length d) (length v) (length old.r) (length old.x) (length old.q) (length old.p) (length old.history))
     ++ preconditioned_lengths dim limit (length st / 4) (length en / 4) (length av / 8) (length ad / 8) (length o / 4) (length cs / 4) (length s / 4) (length d / 8) (length v / 8) (length old.r / 8) (length old.x / 8) (length old.q / 8) (length old.p / 8) (length old.history / 8))) where
-  told : number_of answer ≡ first_of (early_checks (too_large (length st / 4) (length en / 4) || too_large (length o / 4) (length cs / 4)) limit
+  told : number ≡ first_of (early_checks (too_large (length st / 4) (length en / 4) || too_large (length o / 4) (length cs / 4)) limit
       (misshapen_preconditioned dim (length st) (length en) (length av) (length ad) (length o) (length cs) (length s) (length d) (length v) (length old.r) (length old.x) (length old.q) (length old.p) (length old.history))
       ++ preconditioned_lengths dim limit (length (indexes_in st)) (length (indexes_in en)) (length (values_in binary64 av)) (length (values_in binary64 ad)) (length (indexes_in o)) (length (indexes_in cs)) (length (indexes_in s)) (length (values_in binary64 d)) (length (values_in binary64 v)) (length (values_in binary64 old.r)) (length (values_in binary64 old.x)) (length (values_in binary64 old.q)) (length (values_in binary64 old.p)) (length (values_in binary64 old.history)))
   told =
       rw (length_indexes st, length_indexes en, length_values binary64 av, length_values binary64 ad, length_indexes o, length_indexes cs, length_indexes s, length_values binary64 d, length_values binary64 v, length_values binary64 old.r, length_values binary64 old.x, length_values binary64 old.q, length_values binary64 old.p, length_values binary64 old.history) first
 
-  pub lengths_refuse : (why : Refusal) → answer ≡ Answers.TheVariants.Refused why
-      → SolveEnds {A = LentBytes} (preconditioned_byte_checks dim limit st en av ad o cs s d v old) solution (Refused why) new old old
-  lengths_refuse why is =
-      let number_is = sym (ap number_of is) ∙ told in
-      solve_earlier (early_checks (too_large (length st / 4) (length en / 4) || too_large (length o / 4) (length cs / 4)) limit
+  pub lengths_refuse : (result : AnswerOf Solution) (why : Refusal) → result ≡ Err why → refusal_number why ≡ number
+      → SolveEnds {A = LentBytes} (preconditioned_byte_checks dim limit st en av ad o cs s d v old) solution result new old old
+  lengths_refuse result why is same =
+      let number_is = same ∙ told in
+      rw is (solve_earlier (early_checks (too_large (length st / 4) (length en / 4) || too_large (length o / 4) (length cs / 4)) limit
       (misshapen_preconditioned dim (length st) (length en) (length av) (length ad) (length o) (length cs) (length s) (length d) (length v) (length old.r) (length old.x) (length old.q) (length old.p) (length old.history))
       ++ preconditioned_lengths dim limit (length (indexes_in st)) (length (indexes_in en)) (length (values_in binary64 av)) (length (values_in binary64 ad)) (length (indexes_in o)) (length (indexes_in cs)) (length (indexes_in s)) (length (values_in binary64 d)) (length (values_in binary64 v)) (length (values_in binary64 old.r)) (length (values_in binary64 old.x)) (length (values_in binary64 old.q)) (length (values_in binary64 old.p)) (length (values_in binary64 old.history)))
-      (preconditioned_rules (indexes_in st) (indexes_in en) (indexes_in o) (indexes_in cs) (indexes_in s)) solution why new old number_is (λ z. not_zero why (number_is ∙ z))
+      (preconditioned_rules (indexes_in st) (indexes_in en) (indexes_in o) (indexes_in cs) (indexes_in s)) solution why new old number_is (λ z. refusal_counts why (number_is ∙ z)))
 
-  pub words_decide : (result : Solve) → answer ≡ Answers.TheVariants.Done
+  pub words_decide : (result : AnswerOf Solution) → 0 ≡ number
       → SolveEnds {A = LentBytes} (preconditioned_rules (indexes_in st) (indexes_in en) (indexes_in o) (indexes_in cs) (indexes_in s)) solution result new old left
       → SolveEnds {A = LentBytes} (preconditioned_byte_checks dim limit st en av ad o cs s d v old) solution result new old left
   words_decide result is end =
-      let zero_is = sym (sym (ap number_of is) ∙ told) in
+      let zero_is = sym (is ∙ told) in
       let checks = early_checks (too_large (length st / 4) (length en / 4) || too_large (length o / 4) (length cs / 4)) limit
       (misshapen_preconditioned dim (length st) (length en) (length av) (length ad) (length o) (length cs) (length s) (length d) (length v) (length old.r) (length old.x) (length old.q) (length old.p) (length old.history))
       ++ preconditioned_lengths dim limit (length (indexes_in st)) (length (indexes_in en)) (length (values_in binary64 av)) (length (values_in binary64 ad)) (length (indexes_in o)) (length (indexes_in cs)) (length (indexes_in s)) (length (values_in binary64 d)) (length (values_in binary64 v)) (length (values_in binary64 old.r)) (length (values_in binary64 old.x)) (length (values_in binary64 old.q)) (length (values_in binary64 old.p)) (length (values_in binary64 old.history)) in

@@ -14,14 +14,14 @@ ghost use Rattle.solver_bytes.specs.Lent.{LentBytes, bytes_lent, words_lent, mat
 ghost use Rattle.preconditioned_room.specs.Rooms.{factor_in};
 ghost use Rattle.preconditioned_bytes.specs.Checks.{misshapen_preconditioned, preconditioned_byte_checks};
 
-use advancing::unchecked::are_wrong_vectors;
 use answers::{Answer, Iterations, Refusal};
 use factor_bytes::check_factor_bytes;
 use matrix_bytes::check_matrix_bytes;
 use numbered_preconditioned::is_either_too_large;
 use preconditioned_room::unchecked::solve_in_room;
 use solver_bytes::are_broken_vectors;
-use solvers::Solve;
+use solver_bytes::unchecked::are_wrong_vectors;
+use solvers::Solution;
 
 // Whether 2 applies, by the lengths of the bytes of patterns that are not too large.
 fn is_wrong(
@@ -46,18 +46,18 @@ fn is_wrong(
     ensures { result ≡ misshapen_preconditioned dim starts entries a_values a_diagonal offsets columns splits diagonal values r x pr p history
         || wrong_preconditioned dim limit (starts / 4 - 1) (entries / 4) (a_values / 8) (a_diagonal / 8) (offsets / 4 - 1) (columns / 4) (splits / 4) (diagonal / 8) (values / 8) (r / 8) (x / 8) (pr / 8) (p / 8) (history / 8) }
 {
-    if check_matrix_bytes(dim, starts, entries, a_values, a_diagonal).number() != 0 {
+    if check_matrix_bytes(dim, starts, entries, a_values, a_diagonal).is_err() {
         return true;
     }
     let torn = are_broken_vectors(r, x, pr, p, history);
-    if check_factor_bytes(dim, offsets, columns, splits, diagonal, values, torn).number() != 0 {
+    if check_factor_bytes(dim, offsets, columns, splits, diagonal, values, torn).is_err() {
         return true;
     }
     let rows = starts / 4 - 1;
     if offsets / 4 - 1 != rows {
         return true;
     }
-    if are_wrong_vectors(dim as usize, rows, r / 8, x / 8, pr / 8, p / 8) {
+    if are_wrong_vectors(dim, rows, r / 8, x / 8, pr / 8, p / 8) {
         return true;
     }
     history / 8 < limit as usize + 2
@@ -86,18 +86,18 @@ fn check_preconditioned_bytes(
         ++ preconditioned_lengths dim limit (starts / 4) (entries / 4) (a_values / 8) (a_diagonal / 8) (offsets / 4) (columns / 4) (splits / 4) (diagonal / 8) (values / 8) (r / 8) (x / 8) (pr / 8) (p / 8) (history / 8)) }
 {
     if is_either_too_large(starts / 4, entries / 4, offsets / 4, columns / 4) {
-        return Answer::Refused(Refusal::Size);
+        return Err(Refusal::Size);
     }
     if Iterations(limit as usize).out_of_range() {
-        return Answer::Refused(Refusal::Limit);
+        return Err(Refusal::Limit);
     }
     if is_wrong(
         dim, limit, starts, entries, a_values, a_diagonal, offsets, columns, splits, diagonal,
         values, r, x, pr, p, history,
     ) {
-        return Answer::Refused(Refusal::Shape);
+        return Err(Refusal::Shape);
     }
-    Answer::Done
+    Ok(())
 }
 
 // x becomes what A and the right side r solve to, in at most `limit` steps, each preconditioned by the factor: the count of norms, the last of them, and the verdict.
@@ -119,13 +119,13 @@ pub fn preconditioned_conjugate_gradient(
     diagonal: &[u8],
     values: &[u8],
     history: &mut [u8],
-) -> Solve
+) -> Answer<Solution>
     ensures { SolveEnds {A = LentBytes} (preconditioned_byte_checks dim limit starts.now entries.now a_values.now a_diagonal.now offsets.now columns.now splits.now diagonal.now values.now (bytes_lent r.old x.old pr.old p.old history.old))
         (solution_of binary64 limit (preconditioned_run dim limit (matrix_in binary64 starts.now entries.now a_values.now a_diagonal.now) (factor_in binary64 offsets.now columns.now splits.now diagonal.now values.now) tolerance (words_lent binary64 (bytes_lent r.old x.old pr.old p.old history.old))).history) result
         (bytes_left_by binary64 (preconditioned_run dim limit (matrix_in binary64 starts.now entries.now a_values.now a_diagonal.now) (factor_in binary64 offsets.now columns.now splits.now diagonal.now values.now) tolerance (words_lent binary64 (bytes_lent r.old x.old pr.old p.old history.old))) history.old)
         (bytes_lent r.old x.old pr.old p.old history.old) (bytes_lent r.new x.new pr.new p.new history.new) }
 {
-    match check_preconditioned_bytes(
+    check_preconditioned_bytes(
         dim,
         limit,
         starts.len(),
@@ -142,11 +142,9 @@ pub fn preconditioned_conjugate_gradient(
         pr.len(),
         p.len(),
         history.len(),
-    ) {
-        Answer::Done => solve_in_room(
-            r, x, pr, p, history, dim, tolerance, limit, starts, entries, a_values, a_diagonal,
-            offsets, columns, splits, diagonal, values,
-        ),
-        Answer::Refused(why) => Solve::Refused(why),
-    }
+    )?;
+    solve_in_room(
+        r, x, pr, p, history, dim, tolerance, limit, starts, entries, a_values, a_diagonal,
+        offsets, columns, splits, diagonal, values,
+    )
 }

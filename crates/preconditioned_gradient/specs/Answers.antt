@@ -1,9 +1,9 @@
 -- What the preconditioned solver answers and leaves.
 -- Definitions only.
+use Rattle.answers.specs.Numbers.{AnswerOf}
 use Rattle.std.specs.Prelude.{List, ℕ, length, Float}
 use Rattle.std.specs.Float.{Format, binary64}
 use Rattle.solvers.specs.declared.Solution.{Solution}
-use Rattle.solvers.specs.declared.Solve.{Solve}
 use Rattle.solvers.specs.Method.{Matrix, Run}
 use Rattle.solvers.specs.Solvers.{Factor, preconditioned_gradient}
 use Rattle.solvers.specs.Verdict.{preconditioned_verdict, last_of}
@@ -19,7 +19,7 @@ abbrev pub preconditioned_run : ℕ → ℕ → Matrix → Factor → Float → 
 preconditioned_run n limit a g tolerance old = preconditioned_gradient binary64 n a g tolerance limit old.r old.x old.q old.p
 
 -- the promise of the call
-abbrev pub PreconditionedSolves : ℕ → ℕ → Matrix → Factor → Float → Lent → Solve → Lent → Type 0
+abbrev pub PreconditionedSolves : ℕ → ℕ → Matrix → Factor → Float → Lent → AnswerOf Solution → Lent → Type 0
 PreconditionedSolves n limit a g tolerance old result left =
     Solves (preconditioned_checks n limit a.offsets a.columns (length a.values) (length a.diagonal) g.pattern.offsets g.pattern.columns g.pattern.splits
     (length g.values.diagonal) (length g.values.values) (length old.r) (length old.x) (length old.q) (length old.p) (length old.history))

@@ -1,4 +1,4 @@
-// Document 01's `preconditioned_conjugate_gradient`, each call checked, for N = 1, 2, 3.
+// Document 01's `preconditioned_conjugate_gradient`, each call checked, at each size.
 // r is the right side and becomes the residual, x becomes the solution. A is lent as starts, entries, its values and its diagonal, the factor as offsets, columns, splits, its diagonal and its values. A call that refuses changes nothing.
 #![tactic(auto)]
 
@@ -6,7 +6,6 @@ pub mod unchecked;
 
 ghost use Rattle.std.specs.Prelude.{◌≡◌, ◌≤◌, length, take};
 ghost use Rattle.std.specs.Float.{binary64};
-ghost use Rattle.lent.specs.Steps.{Dim};
 ghost use Rattle.solvers.specs.Method.{matrix_of};
 ghost use Rattle.solvers.specs.Solvers.{factor_as};
 ghost use Rattle.solvers.specs.Promise.{lent_of};
@@ -14,8 +13,8 @@ ghost use Rattle.preconditioned_gradient.specs.Answers.{solution_of, Preconditio
 
 use advancing::unchecked::last_number;
 use answers::Answer;
-use factor_steps::unchecked::preconditioned_conjugate_gradient;
-use solvers::{Solution, Solve, Verdict};
+use blocks::Size;
+use solvers::{Solution, Verdict};
 use unchecked::check_preconditioned;
 
 // The answer, from how many norms were written to the history.
@@ -32,14 +31,14 @@ fn preconditioned_solution(history: &[f64], count: usize, limit: u32) -> Solutio
     }
 }
 
-// The checks, then the work.
-fn preconditioned_checked(
+// x becomes what A and the right side r solve to, in at most `limit` steps, each preconditioned by the factor: the count of norms, the last of them, and the verdict.
+pub fn preconditioned_conjugate_gradient<S: Size>(
     r: &mut [f64],
     x: &mut [f64],
     pr: &mut [f64],
     p: &mut [f64],
-    history: &mut [f64],
-    dim: usize,
+    tolerance: f64,
+    limit: u32,
     starts: &[u32],
     entries: &[u32],
     a_values: &[f64],
@@ -49,16 +48,13 @@ fn preconditioned_checked(
     splits: &[u32],
     diagonal: &[f64],
     values: &[f64],
-    tolerance: f64,
-    limit: u32,
-) -> Solve
-    requires { Dim dim }
-    ensures { PreconditionedSolves dim limit (matrix_of starts.now entries.now a_values.now a_diagonal.now) (factor_as offsets.now columns.now splits.now diagonal.now values.now) tolerance
+    history: &mut [f64],
+) -> Answer<Solution>
+    ensures { PreconditionedSolves S.DIM limit (matrix_of starts.now entries.now a_values.now a_diagonal.now) (factor_as offsets.now columns.now splits.now diagonal.now values.now) tolerance
         (lent_of r.old x.old pr.old p.old history.old) result (lent_of r.new x.new pr.new p.new history.new) }
 {
     let most = limit as usize;
-    match check_preconditioned(
-        dim,
+    check_preconditioned::<S>(
         most,
         starts,
         entries,
@@ -74,96 +70,10 @@ fn preconditioned_checked(
         pr.len(),
         p.len(),
         history.len(),
-    ) {
-        Answer::Done => {
-            let count = preconditioned_conjugate_gradient(
-                r, x, pr, p, history, dim, starts, entries, a_values, a_diagonal, offsets, columns,
-                splits, diagonal, values, tolerance, most,
-            );
-            Solve::Ended(preconditioned_solution(history, count, limit))
-        }
-        Answer::Refused(why) => Solve::Refused(why),
-    }
-}
-
-// x becomes what A and the right side r solve to, in at most `limit` steps, each preconditioned by the factor: the count of norms, the last of them, and the verdict.
-pub fn preconditioned_conjugate_gradient_1(
-    r: &mut [f64],
-    x: &mut [f64],
-    pr: &mut [f64],
-    p: &mut [f64],
-    tolerance: f64,
-    limit: u32,
-    starts: &[u32],
-    entries: &[u32],
-    a_values: &[f64],
-    a_diagonal: &[f64],
-    offsets: &[u32],
-    columns: &[u32],
-    splits: &[u32],
-    diagonal: &[f64],
-    values: &[f64],
-    history: &mut [f64],
-) -> Solve
-    ensures { PreconditionedSolves 1 limit (matrix_of starts.now entries.now a_values.now a_diagonal.now) (factor_as offsets.now columns.now splits.now diagonal.now values.now) tolerance
-        (lent_of r.old x.old pr.old p.old history.old) result (lent_of r.new x.new pr.new p.new history.new) }
-{
-    preconditioned_checked(
-        r, x, pr, p, history, 1, starts, entries, a_values, a_diagonal, offsets, columns, splits,
-        diagonal, values, tolerance, limit,
-    )
-}
-
-pub fn preconditioned_conjugate_gradient_2(
-    r: &mut [f64],
-    x: &mut [f64],
-    pr: &mut [f64],
-    p: &mut [f64],
-    tolerance: f64,
-    limit: u32,
-    starts: &[u32],
-    entries: &[u32],
-    a_values: &[f64],
-    a_diagonal: &[f64],
-    offsets: &[u32],
-    columns: &[u32],
-    splits: &[u32],
-    diagonal: &[f64],
-    values: &[f64],
-    history: &mut [f64],
-) -> Solve
-    ensures { PreconditionedSolves 2 limit (matrix_of starts.now entries.now a_values.now a_diagonal.now) (factor_as offsets.now columns.now splits.now diagonal.now values.now) tolerance
-        (lent_of r.old x.old pr.old p.old history.old) result (lent_of r.new x.new pr.new p.new history.new) }
-{
-    preconditioned_checked(
-        r, x, pr, p, history, 2, starts, entries, a_values, a_diagonal, offsets, columns, splits,
-        diagonal, values, tolerance, limit,
-    )
-}
-
-pub fn preconditioned_conjugate_gradient_3(
-    r: &mut [f64],
-    x: &mut [f64],
-    pr: &mut [f64],
-    p: &mut [f64],
-    tolerance: f64,
-    limit: u32,
-    starts: &[u32],
-    entries: &[u32],
-    a_values: &[f64],
-    a_diagonal: &[f64],
-    offsets: &[u32],
-    columns: &[u32],
-    splits: &[u32],
-    diagonal: &[f64],
-    values: &[f64],
-    history: &mut [f64],
-) -> Solve
-    ensures { PreconditionedSolves 3 limit (matrix_of starts.now entries.now a_values.now a_diagonal.now) (factor_as offsets.now columns.now splits.now diagonal.now values.now) tolerance
-        (lent_of r.old x.old pr.old p.old history.old) result (lent_of r.new x.new pr.new p.new history.new) }
-{
-    preconditioned_checked(
-        r, x, pr, p, history, 3, starts, entries, a_values, a_diagonal, offsets, columns, splits,
-        diagonal, values, tolerance, limit,
-    )
+    )?;
+    let count = factor_steps::unchecked::preconditioned_conjugate_gradient::<S>(
+        r, x, pr, p, history, starts, entries, a_values, a_diagonal, offsets, columns, splits,
+        diagonal, values, tolerance, most,
+    );
+    Ok(preconditioned_solution(history, count, limit))
 }

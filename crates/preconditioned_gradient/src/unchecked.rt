@@ -1,22 +1,21 @@
 // The checks of the preconditioned solver, one after the other.
-// These functions ask that N is 1, 2 or 3, or that the lengths are right, so that no user calls them.
+// Some of these functions ask that the lengths are right, so that no user calls them.
 ghost use Rattle.std.specs.Prelude.{◌≡◌, false, ◌≤◌, length};
 ghost use Rattle.answers.specs.Checks.{first_of};
 ghost use Rattle.answers.specs.Numbers.{number_of};
-ghost use Rattle.lent.specs.Steps.{Dim};
 ghost use Rattle.patterns.specs.Checks.{too_large};
 ghost use Rattle.patterns.specs.Pattern.{rows_of};
 ghost use Rattle.solvers.specs.Checks.{wrong_preconditioned, preconditioned_lengths, preconditioned_rules, preconditioned_checks};
 
 use advancing::unchecked::are_wrong_vectors;
 use answers::{Answer, Iterations, Refusal};
+use blocks::Size;
 use factor_check::unchecked::{check_rows, is_wrong_factor};
 use patterns::is_too_large;
 use patterns::unchecked::is_valid_pattern;
 
 // Whether a slice has the wrong length, or the patterns differ in n. A is asked as a factor is that has a split to each row.
-fn is_misshapen(
-    dim: usize,
+fn is_misshapen<S: Size>(
     limit: usize,
     rows: usize,
     entries: usize,
@@ -33,27 +32,26 @@ fn is_misshapen(
     p: usize,
     history: usize,
 ) -> bool
-    requires { (Dim dim) × (limit ≤ 4096) × (rows ≤ 4096) × (entries ≤ 65535) × (factor_rows ≤ 4096) × (columns ≤ 65535) }
-    ensures { result ≡ wrong_preconditioned dim limit rows entries a_values a_diagonal factor_rows columns splits diagonal values r x pr p history }
+    requires { (limit ≤ 4096) × (rows ≤ 4096) × (entries ≤ 65535) × (factor_rows ≤ 4096) × (columns ≤ 65535) }
+    ensures { result ≡ wrong_preconditioned S.DIM limit rows entries a_values a_diagonal factor_rows columns splits diagonal values r x pr p history }
 {
-    if is_wrong_factor(dim, rows, entries, rows, a_diagonal, a_values) {
+    if is_wrong_factor::<S>(rows, entries, rows, a_diagonal, a_values) {
         return true;
     }
     if factor_rows != rows {
         return true;
     }
-    if is_wrong_factor(dim, factor_rows, columns, splits, diagonal, values) {
+    if is_wrong_factor::<S>(factor_rows, columns, splits, diagonal, values) {
         return true;
     }
-    if are_wrong_vectors(dim, rows, r, x, pr, p) {
+    if are_wrong_vectors::<S>(rows, r, x, pr, p) {
         return true;
     }
     history < limit + 2
 }
 
 // The checks by the lengths: 1 of both patterns, then 10, then 2.
-fn check_lengths(
-    dim: usize,
+fn check_lengths<S: Size>(
     limit: usize,
     starts: usize,
     entries: usize,
@@ -70,22 +68,20 @@ fn check_lengths(
     p: usize,
     history: usize,
 ) -> Answer
-    requires { Dim dim }
-    ensures { number_of result ≡ first_of (preconditioned_lengths dim limit starts entries a_values a_diagonal offsets columns splits diagonal values r x pr p history) }
+    ensures { number_of result ≡ first_of (preconditioned_lengths S.DIM limit starts entries a_values a_diagonal offsets columns splits diagonal values r x pr p history) }
 {
     if is_too_large(starts, entries) {
-        return Answer::Refused(Refusal::Size);
+        return Err(Refusal::Size);
     }
     if is_too_large(offsets, columns) {
-        return Answer::Refused(Refusal::Size);
+        return Err(Refusal::Size);
     }
     if Iterations(limit).out_of_range() {
-        return Answer::Refused(Refusal::Limit);
+        return Err(Refusal::Limit);
     }
     let rows = starts - 1;
     let factor_rows = offsets - 1;
-    if is_misshapen(
-        dim,
+    if is_misshapen::<S>(
         limit,
         rows,
         entries,
@@ -102,9 +98,9 @@ fn check_lengths(
         p,
         history,
     ) {
-        return Answer::Refused(Refusal::Shape);
+        return Err(Refusal::Shape);
     }
-    Answer::Done
+    Ok(())
 }
 
 // The checks by what the patterns hold: 3 of both, then 11 of the factor's.
@@ -119,14 +115,13 @@ fn check_rules(
     ensures { number_of result ≡ first_of (preconditioned_rules starts.now entries.now offsets.now columns.now splits.now) }
 {
     if !is_valid_pattern(starts, entries) {
-        return Answer::Refused(Refusal::Pattern);
+        return Err(Refusal::Pattern);
     }
     check_rows(offsets, columns, splits)
 }
 
 // All checks.
-pub fn check_preconditioned(
-    dim: usize,
+pub fn check_preconditioned<S: Size>(
     limit: usize,
     starts: &[u32],
     entries: &[u32],
@@ -143,11 +138,9 @@ pub fn check_preconditioned(
     p: usize,
     history: usize,
 ) -> Answer
-    requires { Dim dim }
-    ensures { number_of result ≡ first_of (preconditioned_checks dim limit starts.now entries.now a_values a_diagonal offsets.now columns.now splits.now diagonal values r x pr p history) }
+    ensures { number_of result ≡ first_of (preconditioned_checks S.DIM limit starts.now entries.now a_values a_diagonal offsets.now columns.now splits.now diagonal values r x pr p history) }
 {
-    let answer = check_lengths(
-        dim,
+    check_lengths::<S>(
         limit,
         starts.len(),
         entries.len(),
@@ -163,9 +156,6 @@ pub fn check_preconditioned(
         pr,
         p,
         history,
-    );
-    if answer.number() != 0 {
-        return answer;
-    }
+    )?;
     check_rules(starts, entries, offsets, columns, splits)
 }

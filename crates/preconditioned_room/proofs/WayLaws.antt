@@ -6,10 +6,11 @@ use mathlib.Core.Bool.{Bool, true, false, ◌||◌}
 use Prim.Native.Nat.{ℕ, ◌+◌, ◌-◌, ◌/◌, ◌≤◌}
 use lib.ListN.{length}
 use lib.Ieee.{Float, binary64}
+use Rattle.solvers.specs.declared.Solution.{Solution}
+use Rattle.answers.specs.Numbers.{AnswerOf}
 use Rattle.answers.specs.Checks.{◌when◌, none_holds}
 use Rattle.answers.specs.Limits.{outside_of, iterations_out_of_range}
 use Rattle.patterns.specs.Checks.{too_large}
-use Rattle.solvers.specs.declared.Solve.{Solve}
 use Rattle.solvers.specs.Method.{Matrix, matrix_of}
 use Rattle.solvers.specs.Solvers.{Factor, factor_as}
 use Rattle.solvers.specs.Checks.{wrong_preconditioned, preconditioned_lengths, preconditioned_rules}
@@ -34,14 +35,14 @@ none_holds_lem false true outside wrong inside passed = passed
 none_holds_lem false false outside wrong inside passed = rw inside passed
 
 -- whether an end with these words is that of the call
-abbrev pub Solved : ℕ → ℕ → Float → Matrix → Factor → LentBytes → Solve → LentBytes → Type 0
+abbrev pub Solved : ℕ → ℕ → Float → Matrix → Factor → LentBytes → AnswerOf Solution → LentBytes → Type 0
 Solved dim limit tolerance a g old result left =
     SolveEnds {A = LentBytes} (preconditioned_rules a.offsets a.columns g.pattern.offsets g.pattern.columns g.pattern.splits)
     (solution_of binary64 limit (preconditioned_run dim limit a g tolerance (words_lent binary64 old)).history) result
     (bytes_left_by binary64 (preconditioned_run dim limit a g tolerance (words_lent binary64 old)) old.history) old left
 
 module _ (dim limit : ℕ) (tolerance : Float) (heads cells : List ℕ) (blocks pivots : List Float) (offs cols cuts : List ℕ) (diag vals : List Float) (old : LentBytes)
-    (residual solution product direction numbers : List Float) (result : Solve) (left : Lent)
+    (residual solution product direction numbers : List Float) (result : AnswerOf Solution) (left : Lent)
     (end : SolveEnds {A = Lent} (preconditioned_call_checks dim limit (matrix_of heads cells blocks pivots) (factor_as offs cols cuts diag vals) (lent_of residual solution product direction numbers))
     (solution_of binary64 limit (preconditioned_run dim limit (matrix_of heads cells blocks pivots) (factor_as offs cols cuts diag vals) tolerance (lent_of residual solution product direction numbers)).history) result
     (left_by (preconditioned_run dim limit (matrix_of heads cells blocks pivots) (factor_as offs cols cuts diag vals) tolerance (lent_of residual solution product direction numbers)) numbers)
@@ -87,12 +88,12 @@ pub factor_at : (dim limit h c b d o cs s g v r x pr p o' cs' s' g' v' : ℕ) �
 factor_at dim limit h c b d o cs s g v r x pr p o' cs' s' g' v' eo ec es eg ev passed = rw (eo, ec, es, eg, ev) passed
 
 -- the words are those that the bytes hold
-pub factor_of_bytes : (dim limit : ℕ) (tolerance : Float) (a : Matrix) (o c s d v : List ℕ) (offs cols cuts : List ℕ) (diag vals : List Float) (old : LentBytes) (result : Solve) (left : LentBytes)
+pub factor_of_bytes : (dim limit : ℕ) (tolerance : Float) (a : Matrix) (o c s d v : List ℕ) (offs cols cuts : List ℕ) (diag vals : List Float) (old : LentBytes) (result : AnswerOf Solution) (left : LentBytes)
     → Decoded binary64 offs cols cuts diag vals o c s d v → Solved dim limit tolerance a (factor_as offs cols cuts diag vals) old result left → Solved dim limit tolerance a (factor_in binary64 o c s d v) old result left
 factor_of_bytes dim limit tolerance a o c s d v offs cols cuts diag vals old result left read end =
     rw (read.offsets_are, read.columns_are, read.splits_are, read.diagonal_is, read.values_are) at end
 
-pub matrix_of_bytes : (dim limit : ℕ) (tolerance : Float) (g : Factor) (st en av ad : List ℕ) (heads cells : List ℕ) (blocks pivots : List Float) (old : LentBytes) (result : Solve) (left : LentBytes)
+pub matrix_of_bytes : (dim limit : ℕ) (tolerance : Float) (g : Factor) (st en av ad : List ℕ) (heads cells : List ℕ) (blocks pivots : List Float) (old : LentBytes) (result : AnswerOf Solution) (left : LentBytes)
     → heads ≡ indexes_in st → cells ≡ indexes_in en → blocks ≡ values_in binary64 av → pivots ≡ values_in binary64 ad → Solved dim limit tolerance (matrix_of heads cells blocks pivots) g old result left
     → Solved dim limit tolerance (matrix_in binary64 st en av ad) g old result left
 matrix_of_bytes dim limit tolerance g st en av ad heads cells blocks pivots old result left eh ec eb ep end = rw (eh, ec, eb, ep) at end

@@ -14,12 +14,13 @@ ghost use Rattle.solver_bytes.specs.Lent.{LentBytes, bytes_lent, words_lent, mat
 ghost use Rattle.solver_bytes.specs.Rooms.{HeldVectors, FilledVectors};
 ghost use Rattle.preconditioned_room.specs.Rooms.{factor_in, PreconditionedPassed};
 
+use answers::Answer;
 use factor_bytes::unchecked::decode_factor;
 use matrix_bytes::unchecked::decode_both;
 use numbered_preconditioned::preconditioned_conjugate_gradient;
 use pattern_bytes::unchecked::decode_pattern;
 use solver_bytes::unchecked::{decode_vectors, write_back};
-use solvers::Solve;
+use solvers::Solution;
 
 // With the words of the matrix and of the factor, in room that is lent for those of the vectors and for the numbers of the history.
 fn solve_vectors(
@@ -45,7 +46,7 @@ fn solve_vectors(
     cuts: &[u32],
     diag: &[f64],
     vals: &[f64],
-) -> Solve
+) -> Answer<Solution>
     requires { (HeldVectors dim (limit + 2) (length r.old) (length x.old) (length pr.old) (length p.old) (length history.old)) × (PreconditionedPassed dim limit (length heads.now) (length cells.now) (length blocks.now) (length pivots.now) (length offs.now) (length cols.now) (length cuts.now) (length diag.now) (length vals.now) (length r.old) (length x.old) (length pr.old) (length p.old))
         × (FilledVectors (length residual.old) (length solution.old) (length product.old) (length direction.old) (length r.old) (length x.old) (length pr.old) (length p.old)) × (length numbers.old ≡ limit + 2) }
     ensures { SolveEnds {A = LentBytes} (preconditioned_rules heads.now cells.now offs.now cols.now cuts.now) (solution_of binary64 limit (preconditioned_run dim limit (matrix_of heads.now cells.now blocks.now pivots.now) (factor_as offs.now cols.now cuts.now diag.now vals.now) tolerance (words_lent binary64 (bytes_lent r.old x.old pr.old p.old history.old))).history) result
@@ -82,7 +83,7 @@ fn solve_words(
     cuts: &[u32],
     diag: &[f64],
     vals: &[f64],
-) -> Solve
+) -> Answer<Solution>
     requires { (HeldVectors dim (limit + 2) (length r.old) (length x.old) (length pr.old) (length p.old) (length history.old)) × (PreconditionedPassed dim limit (length heads.now) (length cells.now) (length blocks.now) (length pivots.now) (length offs.now) (length cols.now) (length cuts.now) (length diag.now) (length vals.now) (length r.old) (length x.old) (length pr.old) (length p.old)) }
     ensures { SolveEnds {A = LentBytes} (preconditioned_rules heads.now cells.now offs.now cols.now cuts.now) (solution_of binary64 limit (preconditioned_run dim limit (matrix_of heads.now cells.now blocks.now pivots.now) (factor_as offs.now cols.now cuts.now diag.now vals.now) tolerance (words_lent binary64 (bytes_lent r.old x.old pr.old p.old history.old))).history) result
         (bytes_left_by binary64 (preconditioned_run dim limit (matrix_of heads.now cells.now blocks.now pivots.now) (factor_as offs.now cols.now cuts.now diag.now vals.now) tolerance (words_lent binary64 (bytes_lent r.old x.old pr.old p.old history.old))) history.old)
@@ -144,7 +145,7 @@ fn solve_factor(
     splits: &[u8],
     diagonal: &[u8],
     values: &[u8],
-) -> Solve
+) -> Answer<Solution>
     requires { (FilledFactor dim (length offs.old) (length cols.old) (length cuts.old) (length diag.old) (length vals.old) (length offsets.now) (length columns.now) (length splits.now) (length diagonal.now) (length values.now))
         × (HeldVectors dim (limit + 2) (length r.old) (length x.old) (length pr.old) (length p.old) (length history.old)) × (PreconditionedPassed dim limit (length heads.now) (length cells.now) (length blocks.now) (length pivots.now) (length offs.old) (length cols.old) (length cuts.old) (length diag.old) (length vals.old) (length r.old) (length x.old) (length pr.old) (length p.old)) }
     ensures { SolveEnds {A = LentBytes} (preconditioned_rules heads.now cells.now (indexes_in offsets.now) (indexes_in columns.now) (indexes_in splits.now)) (solution_of binary64 limit (preconditioned_run dim limit (matrix_of heads.now cells.now blocks.now pivots.now) (factor_in binary64 offsets.now columns.now splits.now diagonal.now values.now) tolerance (words_lent binary64 (bytes_lent r.old x.old pr.old p.old history.old))).history) result
@@ -179,7 +180,7 @@ fn solve_bytes(
     splits: &[u8],
     diagonal: &[u8],
     values: &[u8],
-) -> Solve
+) -> Answer<Solution>
     requires { (HeldFactor 4096 65535 dim (length offsets.now) (length columns.now) (length splits.now) (length diagonal.now) (length values.now))
         × (HeldVectors dim (limit + 2) (length r.old) (length x.old) (length pr.old) (length p.old) (length history.old)) × (PreconditionedPassed dim limit (length heads.now) (length cells.now) (length blocks.now) (length pivots.now) (length offsets.now / 4) (length columns.now / 4) (length splits.now / 4) (length diagonal.now / 8) (length values.now / 8) (length r.old) (length x.old) (length pr.old) (length p.old)) }
     ensures { SolveEnds {A = LentBytes} (preconditioned_rules heads.now cells.now (indexes_in offsets.now) (indexes_in columns.now) (indexes_in splits.now)) (solution_of binary64 limit (preconditioned_run dim limit (matrix_of heads.now cells.now blocks.now pivots.now) (factor_in binary64 offsets.now columns.now splits.now diagonal.now values.now) tolerance (words_lent binary64 (bytes_lent r.old x.old pr.old p.old history.old))).history) result
@@ -240,7 +241,7 @@ fn solve_in(
     splits: &[u8],
     diagonal: &[u8],
     values: &[u8],
-) -> Solve
+) -> Answer<Solution>
     requires { (FilledMatrix dim (length heads.old) (length cells.old) (length blocks.old) (length pivots.old) (length starts.now) (length entries.now) (length a_values.now) (length a_diagonal.now))
         × (HeldFactor 4096 65535 dim (length offsets.now) (length columns.now) (length splits.now) (length diagonal.now) (length values.now))
         × (HeldVectors dim (limit + 2) (length r.old) (length x.old) (length pr.old) (length p.old) (length history.old)) × (PreconditionedPassed dim limit (length heads.old) (length cells.old) (length blocks.old) (length pivots.old) (length offsets.now / 4) (length columns.now / 4) (length splits.now / 4) (length diagonal.now / 8) (length values.now / 8) (length r.old) (length x.old) (length pr.old) (length p.old)) }
@@ -275,7 +276,7 @@ pub fn solve_in_room(
     splits: &[u8],
     diagonal: &[u8],
     values: &[u8],
-) -> Solve
+) -> Answer<Solution>
     requires { (HeldMatrix 4096 65535 dim (length starts.now) (length entries.now) (length a_values.now) (length a_diagonal.now))
         × (HeldFactor 4096 65535 dim (length offsets.now) (length columns.now) (length splits.now) (length diagonal.now) (length values.now))
         × (HeldVectors dim (limit + 2) (length r.old) (length x.old) (length pr.old) (length p.old) (length history.old)) × (PreconditionedPassed dim limit (length starts.now / 4) (length entries.now / 4) (length a_values.now / 8) (length a_diagonal.now / 8) (length offsets.now / 4) (length columns.now / 4) (length splits.now / 4) (length diagonal.now / 8) (length values.now / 8) (length r.old) (length x.old) (length pr.old) (length p.old)) }

@@ -41,12 +41,8 @@ fn tilted_place(dim: usize, entry: usize, entries: usize) -> usize {
     if entry == 1 {
         return values_a_row(dim);
     }
-    if entry % 2 == 0 {
-        if entry < entries {
-            if entries - entry > 2 {
-                return values_a_row(dim);
-            }
-        }
+    if entry % 2 == 0 && entries.saturating_sub(entry) > 2 {
+        return values_a_row(dim);
     }
     1
 }
@@ -65,46 +61,38 @@ fn entry_word(dim: usize, k: usize, entries: usize) -> f64 {
 
 // The diagonal values of A, times a number.
 pub fn fill_diagonal(words: &mut [f64], dim: usize, scale: f64) {
-    let mut k = 0;
-    while k < words.len() {
-        words[k] = scale * diagonal_word(dim, k);
-        k += 1;
+    for (k, word) in words.iter_mut().enumerate() {
+        *word = scale * diagonal_word(dim, k);
     }
 }
 
 // The diagonal values of a factor without entries.
 pub fn fill_inverses(words: &mut [f64], dim: usize) {
-    let mut k = 0;
-    while k < words.len() {
-        words[k] = inverse_word(dim, k);
-        k += 1;
+    for (k, word) in words.iter_mut().enumerate() {
+        *word = inverse_word(dim, k);
     }
 }
 
 // The values of so many entries of A, times a number.
 pub fn fill_values(words: &mut [f64], dim: usize, entries: usize, scale: f64) {
-    let mut k = 0;
-    while k < words.len() {
-        words[k] = scale * entry_word(dim, k, entries);
-        k += 1;
+    for (k, word) in words.iter_mut().enumerate() {
+        *word = scale * entry_word(dim, k, entries);
     }
 }
 
 // A row's two columns; the first is also the row that comes next.
 fn column_after(row: u32, rows: u32) -> u32 {
-    if row < rows {
-        if rows - row > 1 {
-            return row + 1;
-        }
+    match row.checked_add(1) {
+        Some(next) if next < rows => next,
+        _ => 0,
     }
-    0
 }
 
 fn column_before(row: u32, rows: u32) -> u32 {
     if row > 0 {
         return row - 1;
     }
-    if rows > 0 { rows - 1 } else { 0 }
+    rows.saturating_sub(1)
 }
 
 // At an even place stands a row's first column; after an odd one the row ends.
@@ -125,10 +113,8 @@ fn row_after(k: usize, row: u32, rows: u32) -> u32 {
 // The columns of so many rows.
 pub fn fill_columns(columns: &mut [u32], rows: u32) {
     let mut row: u32 = 0;
-    let mut k = 0;
-    while k < columns.len() {
-        columns[k] = column_at(k, row, rows);
+    for (k, column) in columns.iter_mut().enumerate() {
+        *column = column_at(k, row, rows);
         row = row_after(k, row, rows);
-        k += 1;
     }
 }

@@ -35,7 +35,7 @@ struct Floor {
 fn next_digit(left: u64, price: u64) -> u64
     ensures { (result ≡ cond (leb price left) 1 0) × (result ≤ 1) }
 {
-    if left >= price { 1 } else { 0 }
+    u64::from(left >= price)
 }
 
 // What is left when the next digit is paid for.
@@ -54,12 +54,10 @@ fn floor_root(a: u64) -> Floor
     let mut root: u64 = 0;
     let mut left: u64 = 0;
     let mut rest: u64 = a;
-    let mut turn: u64 = 0;
-    while turn < DIGITS {
+    for _turn in 0..DIGITS {
         let brought = left * 4 + rest / LEADING;
         let price = root * 4 + 1;
         rest = rest % LEADING * 4;
-        turn += 1;
         root = root * 2 + next_digit(brought, price);
         left = next_left(brought, price);
     }
@@ -94,6 +92,7 @@ fn scale_subnormal(bits: u64) -> Fours
 {
     let mut digits: u64 = bits;
     let mut fours: u64 = PLACES / 2;
+    // a `while`, since the digits say when to stop, and not a count
     while digits < LEADING {
         digits = digits * 4;
         fours = fours - 1;

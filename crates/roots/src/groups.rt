@@ -10,34 +10,31 @@ const FIELD: u64 = 0x0010_0000_0000_0000;
 
 // Document 01, case 12: the roots of 2 and of 2^-1074, whose root is 2^-537.
 pub fn case_12() -> Tally {
-    Tally::new()
-        .compared(0x4000_0000_0000_0000, 0x3ff6_a09e_667f_3bcd)
-        .compared(1, 486 * FIELD)
-}
-
-// Both doubles beside x.
-fn beside(t: Tally, x: u64) -> Tally {
-    t.judged(std::num::wrapping_sub_u64(x, 1))
-        .judged(std::num::wrapping_add_u64(x, 1))
-}
-
-// Every power of two that is subnormal, with both neighbours.
-fn subnormal_powers(from: Tally) -> Tally {
-    let mut t = from;
-    let mut x: u64 = 1;
-    while x < FIELD {
-        t = beside(t.judged(x), x);
-        x = x * 2;
-    }
+    let mut t = Tally::default();
+    t.compare(0x4000_0000_0000_0000, 0x3ff6_a09e_667f_3bcd);
+    t.compare(1, 486 * FIELD);
     t
 }
 
-// Every power of two, with both neighbours.
+// Both doubles beside x.
+fn judge_beside(t: &mut Tally, x: u64) {
+    t.judge(x.wrapping_sub(1));
+    t.judge(x.wrapping_add(1));
+}
+
+fn judge_around(t: &mut Tally, x: u64) {
+    t.judge(x);
+    judge_beside(t, x);
+}
+
+// Every power of two, subnormal ones first, with both neighbours.
 pub fn powers() -> Tally {
-    let mut t = subnormal_powers(Tally::new());
+    let mut t = Tally::default();
+    for place in 0..52u32 {
+        judge_around(&mut t, 1 << place);
+    }
     for field in 1..2047 {
-        let x = field * FIELD;
-        t = beside(t.judged(x), x);
+        judge_around(&mut t, field * FIELD);
     }
     t
 }
@@ -52,22 +49,13 @@ fn mixed(seed: u64) -> u64
     a * 0x10_0000 + b / 0x1000
 }
 
-// 16 numbers with the exponent's field given.
-fn one_exponent(from: Tally, field: u64) -> Tally
-    requires { field < 2047 }
-{
-    let mut t = from;
-    for i in 0..16 {
-        t = t.judged(field * FIELD + mixed(field * 16 + i));
-    }
-    t
-}
-
-// The same at every exponent, subnormal numbers included.
+// 16 numbers at every exponent, subnormal ones included.
 pub fn every_exponent() -> Tally {
-    let mut t = Tally::new();
+    let mut t = Tally::default();
     for field in 0..2047 {
-        t = one_exponent(t, field);
+        for i in 0..16 {
+            t.judge(field * FIELD + mixed(field * 16 + i));
+        }
     }
     t
 }
@@ -78,37 +66,43 @@ fn bits_of_whole(n: u64) -> u64 {
 
 // k * k is below 2^53, so it is a double and its root is k exactly. And both its neighbours.
 // 94,906,265 is the whole part of the root of 2^53.
-fn one_square(t: Tally, k: u64) -> Tally
+fn judge_square(t: &mut Tally, k: u64)
     requires { k ≤ 94906265 }
 {
     let x = bits_of_whole(k * k);
-    beside(t.compared(x, bits_of_whole(k)), x)
+    t.compare(x, bits_of_whole(k));
+    judge_beside(t, x);
 }
 
 // Squares of 1 to 2000, and of as many larger numbers in equal steps.
 pub fn squares() -> Tally {
-    let mut t = Tally::new();
-    for i in 0..2000 {
-        t = one_square(one_square(t, i + 1), (i + 1) * 47453);
+    let mut t = Tally::default();
+    for i in 1..2001 {
+        judge_square(&mut t, i);
+        judge_square(&mut t, i * 47453);
     }
     t
 }
 
 // Zeros and plus infinity give themselves, and what is below zero and a NaN give a NaN.
 pub fn special() -> Tally {
-    let zero = 0;
     let minus = 0x8000_0000_0000_0000;
     let infinity = 0x7ff0_0000_0000_0000;
     let nan = 0x7ff8_0000_0000_0000;
-    Tally::new()
-        .compared(zero, zero)
-        .compared(minus, minus)
-        .compared(infinity, infinity)
-        .compared(minus + infinity, nan)
-        .compared(nan, nan)
-        .compared(minus + nan, nan)
-        .compared(minus + 1, nan)
-        .compared(minus + FIELD, nan)
-        .compared(minus + 1023 * FIELD, nan)
-        .compared(minus + 2047 * FIELD - 1, nan)
+    let mut t = Tally::default();
+    for x in [0, minus, infinity] {
+        t.compare(x, x);
+    }
+    for x in [
+        minus + infinity,
+        nan,
+        minus + nan,
+        minus + 1,
+        minus + FIELD,
+        minus + 1023 * FIELD,
+        minus + 2047 * FIELD - 1,
+    ] {
+        t.compare(x, nan);
+    }
+    t
 }

@@ -34,13 +34,12 @@ fn main(rt: HostRuntime) -> io::Result<()> {
     let length = read_full(&mut rt.reader(), &mut text)?;
     warn_if_full(&rt, length)?;
     input::run_published(&rt, &text[..length])?;
-    tally::report(&rt, b"case 12", groups::case_12())?;
-    tally::report(&rt, b"powers of two and their neighbours", groups::powers())?;
-    tally::report(
-        &rt,
-        b"a spread of digits at every exponent",
-        groups::every_exponent(),
+    println!(rt; "case 12: {}", groups::case_12())?;
+    println!(rt; "powers of two and their neighbours: {}", groups::powers())?;
+    println!(rt;
+        "a spread of digits at every exponent: {}",
+        groups::every_exponent()
     )?;
-    tally::report(&rt, b"squares and their neighbours", groups::squares())?;
-    tally::report(&rt, b"special values", groups::special())
+    println!(rt; "squares and their neighbours: {}", groups::squares())?;
+    println!(rt; "special values: {}", groups::special())
 }

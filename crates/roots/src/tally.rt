@@ -1,7 +1,7 @@
 // Counts of roots and of wrong ones, and the lines that say them. A NaN counts as one pattern.
 // Bits go to a value and back through the crate words, which knows NaN by one pattern.
 use crate::checker::is_nearest;
-use std::io;
+use std::fmt;
 use words::{bits_of, value_of};
 
 // The bits of a negative zero, of plus infinity, and those that stand here for every NaN.
@@ -11,16 +11,30 @@ const INFINITY: u64 = 0x7ff0_0000_0000_0000;
 
 const NAN: u64 = 0x7ff8_0000_0000_0000;
 
-// How many roots were taken and how many were wrong, and of the first wrong one its number, what
-// came, and what was expected, if that is known.
+// A root that is not as it should be: the number, what came, and what was expected, if that is known.
 #[derive(Clone, Copy)]
+struct Wrong {
+    x: u64,
+    got: u64,
+    want: Option<u64>,
+}
+
+impl fmt::Display for Wrong {
+    fn fmt<W: fmt::Write>(&self, f: &mut fmt::Formatter<W>) -> fmt::Result {
+        write!(f, "of {:016x} got {:016x}, ", self.x, self.got)?;
+        match self.want {
+            Some(want) => write!(f, "expected {want:016x}"),
+            None => f.write_str("not nearest"),
+        }
+    }
+}
+
+// How many roots were taken, how many of them were wrong, and the first of those.
+#[derive(Clone, Copy, Default)]
 pub struct Tally {
     roots: u64,
     wrong: u64,
-    x: u64,
-    got: u64,
-    want: u64,
-    known: bool,
+    first_wrong: Option<Wrong>,
 }
 
 // The bits of the library's root, of those of a number.
@@ -31,10 +45,7 @@ fn root_of(bits: u64) -> u64 {
 // Whether got is the answer for x: a NaN of a NaN and of what is below zero, a zero and plus infinity
 // themselves, and otherwise the nearest double.
 fn is_right(x: u64, got: u64) -> bool {
-    if x % SIGN == 0 {
-        return got == x;
-    }
-    if x == INFINITY {
+    if x % SIGN == 0 || x == INFINITY {
         return got == x;
     }
     if x > INFINITY {
@@ -44,96 +55,45 @@ fn is_right(x: u64, got: u64) -> bool {
 }
 
 impl Tally {
-    pub fn new() -> Self {
-        Tally {
-            roots: 0,
-            wrong: 0,
-            x: 0,
-            got: 0,
-            want: 0,
-            known: false,
-        }
-    }
-
-    pub fn is_empty(self) -> bool {
+    pub fn is_empty(&self) -> bool {
         self.roots == 0
     }
 
-    // One more root, as it should be.
-    fn right(self) -> Self {
-        Tally {
-            roots: std::num::wrapping_add_u64(self.roots, 1),
-            wrong: self.wrong,
-            x: self.x,
-            got: self.got,
-            want: self.want,
-            known: self.known,
-        }
-    }
-
-    // One more root, and wrong. Only the first is kept.
-    fn failed(self, x: u64, got: u64, want: u64, known: bool) -> Self {
-        let counted = self.right();
-        let wrong = std::num::wrapping_add_u64(self.wrong, 1);
-        if self.wrong > 0 {
-            return Tally {
-                roots: counted.roots,
-                wrong,
-                x: self.x,
-                got: self.got,
-                want: self.want,
-                known: self.known,
-            };
-        }
-        Tally {
-            roots: counted.roots,
-            wrong,
-            x,
-            got,
-            want,
-            known,
+    fn count(&mut self, wrong: Option<Wrong>) {
+        self.roots = self.roots.wrapping_add(1);
+        if let Some(wrong) = wrong {
+            self.wrong = self.wrong.wrapping_add(1);
+            self.first_wrong.get_or_insert(wrong);
         }
     }
 
     // The root of x is to have the bits want.
-    pub fn compared(self, x: u64, want: u64) -> Self {
+    pub fn compare(&mut self, x: u64, want: u64) {
         let got = root_of(x);
-        let expected = bits_of(value_of(want));
-        if got == expected {
-            return self.right();
-        }
-        self.failed(x, got, expected, true)
+        let want = bits_of(value_of(want));
+        let wrong = Wrong {
+            x,
+            got,
+            want: Some(want),
+        };
+        self.count((got != want).then_some(wrong));
     }
 
     // The root of x is to be right by the checker.
-    pub fn judged(self, x: u64) -> Self {
+    pub fn judge(&mut self, x: u64) {
         let got = root_of(x);
-        if is_right(x, got) {
-            return self.right();
+        let wrong = Wrong { x, got, want: None };
+        self.count((!is_right(x, got)).then_some(wrong));
+    }
+}
+
+// The counts, and on a line of its own the first wrong root.
+impl fmt::Display for Tally {
+    fn fmt<W: fmt::Write>(&self, f: &mut fmt::Formatter<W>) -> fmt::Result {
+        write!(f, "{} roots, {} wrong", self.roots, self.wrong)?;
+        match self.first_wrong {
+            Some(wrong) => write!(f, "\n  first wrong: {wrong}"),
+            None => Ok(()),
         }
-        self.failed(x, got, 0, false)
     }
-}
-
-fn print_expected(rt: &impl Print, t: Tally) -> io::Result<()> {
-    if t.known {
-        println!(rt; ", expected {:016x}", t.want)
-    } else {
-        println!(rt; ", not nearest")
-    }
-}
-
-fn print_first(rt: &impl Print, t: Tally) -> io::Result<()> {
-    print!(rt; "  first wrong: of {:016x} got {:016x}", t.x, t.got)?;
-    print_expected(rt, t)
-}
-
-// The line of a group, and its first wrong root.
-pub fn report(rt: &impl Print, group: &[u8], t: Tally) -> io::Result<()> {
-    rt.write_all(group)?;
-    println!(rt; ": {} roots, {} wrong", t.roots, t.wrong)?;
-    if t.wrong > 0 {
-        print_first(rt, t)?;
-    }
-    Ok(())
 }

@@ -1,59 +1,43 @@
--- Halves of a row that rises: what stands before `low` is below the column sought, what stands from `high` on is not.
+-- Halves of a row that rises: what stands before a place is below the column sought, what stands from there on is not.
 -- Assumes nothing.
 use mathlib.Core.Path.{◌≡◌, refl}
 use mathlib.Core.List.{List}
 use mathlib.Core.Bool.{Bool, true, false}
-use Prim.Native.Nat.{ℕ, ◌+◌, ◌≤◌, ◌<◌}
-use native.Mathlib.Nat.{not-suc-le-zero}
+use Prim.Native.Nat.{ℕ, ◌≤◌, ◌<◌}
 use native.Mathlib.Omega.{arith}
 use lib.Dec.{ltb}
 use lib.ListN.{length, get_or}
 use borrow.Author.Tests.{ltb-true, ltb-false}
+use Rattle.std.specs.List.Sorted.{IsPartitionedBy, IsPartitionPoint}
+use Rattle.std.proofs.lemmas.List.Sorted.{IsPartitionedBy-ltb, IsNonDecreasingBy-from_default}
 use Rattle.patterns.specs.Pattern.{rises}
 use Rattle.rows.specs.Lookup.{no_place, place_in}
 use Rattle.rows.proofs.RowLaws.{absent_of, rises_level}
 use Rattle.rows.proofs.LookupLaws.{found_at, found_nowhere}
 
-pub record Between (row : List ℕ) (column low high : ℕ) : Type 0 where
-  pub order : low ≤ high
-  pub inside : high ≤ length row
-  pub below : (k : ℕ) → k < low → get_or row k 0 < column
-  pub above : (k : ℕ) → high ≤ k → k < length row → column ≤ get_or row k 0
+-- what `partition_point` asks
+pub parted : (row : List ℕ) (column : ℕ) → rises row ≡ true → IsPartitionedBy (λ y. ltb y column) row
+parted row column rising = IsPartitionedBy-ltb (λ y. y) row column (IsNonDecreasingBy-from_default (λ y. y) row 0 (λ i j le inside. rises_level row i j rising le inside))
 
-module _ (row : List ℕ) (column : ℕ) where
-  pub whole_row : Between row column 0 (length row)
-  whole_row = record { order = omega arith; inside = omega arith; below = λ k before. absurd (not-suc-le-zero before); above = λ k after inside. absurd (omega arith) }
+-- and what it then says: the column stands at that place or nowhere
+module _ (row : List ℕ) (column low : ℕ) (split : IsPartitionPoint (λ y. ltb y column ≡ true) (λ y. ltb y column ≡ false) row low) where
+  below : (k : ℕ) → k < low → get_or row k 0 < column
+  below k before = ltb-true _ _ (split.0 k 0 (omega arith) before)
 
-  module _ (rising : rises row ≡ true) (low high middle : ℕ) (least : low ≤ middle) (most : middle < high) (was : Between row column low high) where
-    pub upper_half : get_or row middle 0 < column → Between row column (middle + 1) high
-    upper_half less = record {
-      order = omega arith;
-      inside = was.inside;
-      below = λ k before. omega (arith, rises_level row k middle rising (omega arith) (omega (arith, was.inside)));
-      above = was.above;
-    }
+  above : (k : ℕ) → low ≤ k → k < length row → column ≤ get_or row k 0
+  above k after inside = ltb-false _ _ (split.1 k 0 after inside)
 
-    pub lower_half : column ≤ get_or row middle 0 → Between row column low middle
-    lower_half le = record {
-      order = least;
-      inside = omega (arith, was.inside);
-      below = was.below;
-      above = λ k after inside. omega (arith, rises_level row middle k rising after inside);
-    }
+  pub found_low : low < length row → get_or row low 0 ≡ column → place_in row column ≡ low
+  found_low inside there =
+      found_at row column low (record { below = inside; there = there; first = absent_of row column low (λ j before e. omega (arith, below j before, e)) })
 
-  -- nothing is left between the halves: the column stands at `low` or nowhere
-  module _ (low high : ℕ) (was : Between row column low high) where
-    pub found_low : low < length row → get_or row low 0 ≡ column → place_in row column ≡ low
-    found_low below there =
-        found_at row column low (record { below = below; there = there; first = absent_of row column low (λ j before e. omega (arith, was.below j before, e)) })
+  pub found_past : rises row ≡ true → low < length row → (get_or row low 0 ≡ column → ⊥) → place_in row column ≡ no_place
+  found_past rising inside other = found_nowhere row column (absent_of row column (length row) (λ j. apart j (ltb j low) refl))
+    where
+      apart : (j : ℕ) (b : Bool) → ltb j low ≡ b → j < length row → get_or row j 0 ≡ column → ⊥
+      apart j true less within e = omega (arith, below j (ltb-true j low less), e)
+      apart j false less within e =
+          omega (arith, above low (omega arith) inside, other, rises_level row low j rising (ltb-false j low less) within, e)
 
-    pub found_past : rises row ≡ true → high ≤ low → low < length row → (get_or row low 0 ≡ column → ⊥) → place_in row column ≡ no_place
-    found_past rising closed below other = found_nowhere row column (absent_of row column (length row) (λ j. apart j (ltb j low) refl))
-      where
-        apart : (j : ℕ) (b : Bool) → ltb j low ≡ b → j < length row → get_or row j 0 ≡ column → ⊥
-        apart j true less inside e = omega (arith, was.below j (ltb-true j low less), e)
-        apart j false less inside e =
-            omega (arith, was.above low closed below, other, rises_level row low j rising (ltb-false j low less) inside, e)
-
-    pub found_end : length row ≤ low → place_in row column ≡ no_place
-    found_end closed = found_nowhere row column (absent_of row column (length row) (λ j inside e. omega (arith, was.below j (omega arith), e)))
+  pub found_end : length row ≤ low → place_in row column ≡ no_place
+  found_end closed = found_nowhere row column (absent_of row column (length row) (λ j inside e. omega (arith, below j (omega arith), e)))

@@ -4,6 +4,8 @@
 
 ghost use Rattle.std.specs.Prelude.{◌≤◌};
 
+use answers::Numbered;
+use blocks::{One, Three, Two};
 use limits::sizes::{values_a_block, values_a_row};
 
 // The number and row of an answer, and the words that are left: blocks of three rows and four entries.
@@ -64,45 +66,31 @@ fn tilt(case: usize) -> f64 {
 }
 
 fn put_word(words: &mut [f64], at: usize, x: f64) {
-    if at < words.len() {
-        words[at] = x;
+    if let Some(word) = words.get_mut(at) {
+        *word = x;
     }
 }
 
-// A number on the diagonal of block k.
-fn put_number(words: &mut [f64], dim: usize, k: usize, x: f64)
-    requires { k ≤ 3 }
-{
-    match dim {
-        1 => put_word(words, k, x),
-        2 => {
-            put_word(words, 4 * k, x);
-            put_word(words, 4 * k + 3, x);
-        }
-        _ => {
-            put_word(words, 9 * k, x);
-            put_word(words, 9 * k + 4, x);
-            put_word(words, 9 * k + 8, x);
+// Each number on the diagonal of a block.
+fn put_numbers(words: &mut [f64], dim: usize, numbers: &[f64]) {
+    for (block, number) in words.chunks_exact_mut(values_a_block(dim)).zip(numbers) {
+        for (place, word) in block.iter_mut().enumerate() {
+            if place % (values_a_row(dim) + 1) == 0 {
+                *word = *number;
+            }
         }
     }
 }
 
 fn diagonal_of(dim: usize, case: usize) -> [f64; 27] {
-    let pivots = pivots_of(case);
     let mut diagonal = [0.0; 27];
-    put_number(&mut diagonal, dim, 0, pivots[0]);
-    put_number(&mut diagonal, dim, 1, pivots[1]);
-    put_number(&mut diagonal, dim, 2, pivots[2]);
+    put_numbers(&mut diagonal, dim, &pivots_of(case));
     diagonal
 }
 
 fn values_of(dim: usize, case: usize) -> [f64; 36] {
-    let entries = entries_of(case);
     let mut values = [0.0; 36];
-    put_number(&mut values, dim, 0, entries[0]);
-    put_number(&mut values, dim, 1, entries[1]);
-    put_number(&mut values, dim, 2, entries[2]);
-    put_number(&mut values, dim, 3, entries[3]);
+    put_numbers(&mut values, dim, &entries_of(case));
     if dim > 1 {
         put_word(&mut values, values_a_block(dim) + 1, tilt(case));
         put_word(
@@ -122,21 +110,21 @@ pub fn decomposed(dim: usize, case: usize) -> Left {
     let mut diagonal = diagonal_of(dim, case);
     let mut values = values_of(dim, case);
     let answer = match dim {
-        1 => decompose::decompose_1(
+        1 => decompose::decompose::<One>(
             &offsets,
             &columns,
             &splits,
             &mut diagonal[0..3],
             &mut values[0..4],
         ),
-        2 => decompose::decompose_2(
+        2 => decompose::decompose::<Two>(
             &offsets,
             &columns,
             &splits,
             &mut diagonal[0..12],
             &mut values[0..16],
         ),
-        _ => decompose::decompose_3(&offsets, &columns, &splits, &mut diagonal, &mut values),
+        _ => decompose::decompose::<Three>(&offsets, &columns, &splits, &mut diagonal, &mut values),
     };
     Left {
         number: answer.number(),
@@ -151,14 +139,14 @@ fn solve_with(dim: usize, vec: &mut [f64], diagonal: &[f64], values: &[f64]) {
     let offsets = [0u32, 1, 3, 4];
     let columns = [1u32, 0, 2, 1];
     let splits = [0u32, 2, 4];
-    match dim {
-        1 => precondition::solve_preconditioning_vec_1(
+    let _ = match dim {
+        1 => precondition::solve_preconditioning_vec::<One>(
             vec, &offsets, &columns, &splits, diagonal, values,
         ),
-        2 => precondition::solve_preconditioning_vec_2(
+        2 => precondition::solve_preconditioning_vec::<Two>(
             vec, &offsets, &columns, &splits, diagonal, values,
         ),
-        _ => precondition::solve_preconditioning_vec_3(
+        _ => precondition::solve_preconditioning_vec::<Three>(
             vec, &offsets, &columns, &splits, diagonal, values,
         ),
     };
@@ -167,10 +155,8 @@ fn solve_with(dim: usize, vec: &mut [f64], diagonal: &[f64], values: &[f64]) {
 // The same with the first words of two rooms.
 fn solve_first(dim: usize, vec: &mut [f64], diagonal: &[f64], values: &[f64]) {
     let size = values_a_block(dim);
-    if 3 * size <= diagonal.len() {
-        if 4 * size <= values.len() {
-            solve_with(dim, vec, &diagonal[0..3 * size], &values[0..4 * size]);
-        }
+    if 3 * size <= diagonal.len() && 4 * size <= values.len() {
+        solve_with(dim, vec, &diagonal[..3 * size], &values[..4 * size]);
     }
 }
 
@@ -198,7 +184,7 @@ pub fn case_of_two_rows(pivots: [f64; 2], entry: f64) -> Pair {
     let mut diagonal = [7.0, 7.0];
     let mut values = [7.0, 7.0];
     let mut vec = [8.0, 12.0];
-    copying::copy_value_1(
+    let _ = copying::copy_value::<One>(
         &[0, 1, 2],
         &[1, 0],
         &pivots,
@@ -209,8 +195,14 @@ pub fn case_of_two_rows(pivots: [f64; 2], entry: f64) -> Pair {
         &mut diagonal,
         &mut values,
     );
-    let answer = decompose::decompose_1(&[0, 1, 2], &[1, 0], &[0, 2], &mut diagonal, &mut values);
-    precondition::solve_preconditioning_vec_1(
+    let answer = decompose::decompose::<One>(
+        &[0, 1, 2],
+        &[1, 0],
+        &[0, 2],
+        &mut diagonal,
+        &mut values,
+    );
+    let _ = precondition::solve_preconditioning_vec::<One>(
         &mut vec,
         &[0, 1, 2],
         &[1, 0],
@@ -231,7 +223,7 @@ pub fn case_of_two_rows(pivots: [f64; 2], entry: f64) -> Pair {
 pub fn copied() -> Left {
     let mut diagonal = [7.0; 27];
     let mut values = [7.0; 36];
-    let answer = copying::copy_value_1(
+    let answer = copying::copy_value::<One>(
         &[0, 2, 3, 4],
         &[2, 1, 0, 0],
         &[1.0, 2.0, 3.0],

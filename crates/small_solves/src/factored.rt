@@ -1,5 +1,6 @@
 // The factor of the small systems: A copied to its own pattern, with each row sorted, and decomposed.
 // Row 1 and row 3 would have each other's column in a full factor, so that this one is incomplete.
+use blocks::{One, Three, Two};
 use limits::sizes::values_a_block;
 use ring_systems::{fill_diagonal, fill_values};
 
@@ -15,14 +16,14 @@ fn copy(
     let offsets = [0u32, 2, 4, 6, 8];
     let columns = [1u32, 3, 0, 2, 1, 3, 0, 2];
     let splits = [0u32, 3, 5, 8];
-    match dim {
-        1 => copying::copy_value_1(
+    let _ = match dim {
+        1 => copying::copy_value::<One>(
             &starts, &entries, a_diagonal, a_values, &offsets, &columns, &splits, diagonal, values,
         ),
-        2 => copying::copy_value_2(
+        2 => copying::copy_value::<Two>(
             &starts, &entries, a_diagonal, a_values, &offsets, &columns, &splits, diagonal, values,
         ),
-        _ => copying::copy_value_3(
+        _ => copying::copy_value::<Three>(
             &starts, &entries, a_diagonal, a_values, &offsets, &columns, &splits, diagonal, values,
         ),
     };
@@ -32,10 +33,10 @@ fn decompose_at(dim: usize, diagonal: &mut [f64], values: &mut [f64]) {
     let offsets = [0u32, 2, 4, 6, 8];
     let columns = [1u32, 3, 0, 2, 1, 3, 0, 2];
     let splits = [0u32, 3, 5, 8];
-    match dim {
-        1 => decompose::decompose_1(&offsets, &columns, &splits, diagonal, values),
-        2 => decompose::decompose_2(&offsets, &columns, &splits, diagonal, values),
-        _ => decompose::decompose_3(&offsets, &columns, &splits, diagonal, values),
+    let _ = match dim {
+        1 => decompose::decompose::<One>(&offsets, &columns, &splits, diagonal, values),
+        2 => decompose::decompose::<Two>(&offsets, &columns, &splits, diagonal, values),
+        _ => decompose::decompose::<Three>(&offsets, &columns, &splits, diagonal, values),
     };
 }
 

@@ -4,17 +4,19 @@
 // 14 an infinity in ap or pr; 15 a NaN in the right side; 16 a right side whose square overflows; 17 one whose square is below epsilon unless rows are summed apart, at N = 2.
 ghost use Rattle.std.specs.Prelude.{◌≤◌};
 
+use solver_calls::SolverCall;
+
 // How many steps case 0 takes.
-fn steps_of(call: usize, dim: usize) -> u32
+fn steps_of(call: SolverCall, dim: usize) -> u32
     ensures { (1 ≤ result) × (result ≤ 6) }
 {
-    if call == 1 {
+    if call == SolverCall::Preconditioned {
         return 2;
     }
     if dim == 1 { 4 } else { 6 }
 }
 
-pub fn limit_of(call: usize, dim: usize, case: usize) -> u32
+pub fn limit_of(call: SolverCall, dim: usize, case: usize) -> u32
     ensures { result ≤ 8 }
 {
     match case {
@@ -26,14 +28,18 @@ pub fn limit_of(call: usize, dim: usize, case: usize) -> u32
     }
 }
 
-pub fn history_of(call: usize, dim: usize, case: usize) -> usize
+pub fn history_of(call: SolverCall, dim: usize, case: usize) -> usize
     ensures { result ≤ 12 }
 {
     if case != 1 {
         return 12;
     }
     let steps = steps_of(call, dim) as usize;
-    if call == 1 { steps + 2 } else { steps }
+    if call == SolverCall::Preconditioned {
+        steps + 2
+    } else {
+        steps
+    }
 }
 
 pub fn tolerance_of(case: usize) -> f64 {

@@ -1,21 +1,22 @@
-// Small systems and where both solvers, conjugate_gradient and preconditioned_conjugate_gradient (0, 1), end on them: a function runs one case, by its number.
+// Small systems and where both solvers, conjugate_gradient and preconditioned_conjugate_gradient end on them: a function runs one case, by its number.
 // Lent words rise by one from 1 on, so that those which a call leaves alone show. Nothing is printed here, so that nothing is assumed.
 #![tactic(auto)]
 
 pub mod factored;
 pub mod inputs;
 
+use answers::Answer;
 use factored::factor;
 use inputs::{history_of, limit_of, product_of, right_side_of, rising, scale_of, tolerance_of};
 use limits::sizes::{values_a_block, values_a_row};
 use ring_systems::{fill_diagonal, fill_values};
-use solver_calls::{plain, preconditioned};
-use solvers::Solve;
+use solver_calls::{SolverCall, plain, preconditioned};
+use solvers::Solution;
 
 // The answer, and the words that are left: r, u or x, ap or pr, p, and the history with the words past its count.
 #[derive(Clone, Copy)]
 pub struct Left {
-    pub answer: Solve,
+    pub answer: Answer<Solution>,
     pub r: [f64; 12],
     pub x: [f64; 12],
     pub q: [f64; 12],
@@ -33,7 +34,7 @@ fn solve_plainly(
     history: &mut [f64],
     values: &[f64],
     diagonal: &[f64],
-) -> Solve {
+) -> Answer<Solution> {
     let offsets = [0u32, 2, 4, 6, 8];
     let columns = [1u32, 3, 2, 0, 3, 1, 0, 2];
     plain(
@@ -43,7 +44,7 @@ fn solve_plainly(
         ap,
         p,
         tolerance_of(case),
-        limit_of(0, dim, case),
+        limit_of(SolverCall::Plain, dim, case),
         &offsets,
         &columns,
         values,
@@ -65,7 +66,7 @@ fn solve_with_factor(
     a_diagonal: &[f64],
     diagonal: &mut [f64],
     values: &mut [f64],
-) -> Solve {
+) -> Answer<Solution> {
     let starts = [0u32, 2, 4, 6, 8];
     let entries = [1u32, 3, 2, 0, 3, 1, 0, 2];
     let offsets = [0u32, 2, 4, 6, 8];
@@ -79,7 +80,7 @@ fn solve_with_factor(
         pr,
         p,
         tolerance_of(case),
-        limit_of(1, dim, case),
+        limit_of(SolverCall::Preconditioned, dim, case),
         &starts,
         &entries,
         a_values,
@@ -103,7 +104,7 @@ fn solve_by_factor(
     history: &mut [f64],
     a_values: &[f64],
     a_diagonal: &[f64],
-) -> Solve {
+) -> Answer<Solution> {
     let mut diagonal = [7.0; 36];
     let mut values = [7.0; 72];
     solve_with_factor(
@@ -123,7 +124,7 @@ fn solve_by_factor(
 
 // Four rows in a ring.
 fn solve(
-    call: usize,
+    call: SolverCall,
     dim: usize,
     case: usize,
     r: &mut [f64],
@@ -131,13 +132,13 @@ fn solve(
     q: &mut [f64],
     p: &mut [f64],
     history: &mut [f64],
-) -> Solve {
+) -> Answer<Solution> {
     let size = values_a_block(dim);
     let mut diagonal = [0.0; 36];
     let mut values = [0.0; 72];
     fill_diagonal(&mut diagonal, dim, scale_of(case));
     fill_values(&mut values, dim, 8, scale_of(case));
-    if call == 0 {
+    if call == SolverCall::Plain {
         return solve_plainly(
             dim,
             case,
@@ -163,7 +164,7 @@ fn solve(
     )
 }
 
-pub fn solved(call: usize, dim: usize, case: usize) -> Left {
+pub fn solved(call: SolverCall, dim: usize, case: usize) -> Left {
     let count = 4 * values_a_row(dim);
     let mut r = right_side_of(case);
     let mut x = rising();
@@ -192,7 +193,7 @@ pub fn solved(call: usize, dim: usize, case: usize) -> Left {
 
 // One row: A is 2, and its factor is 0.5.
 fn solve_one(
-    call: usize,
+    call: SolverCall,
     r: &mut [f64],
     x: &mut [f64],
     q: &mut [f64],
@@ -200,7 +201,7 @@ fn solve_one(
     history: &mut [f64],
     tolerance: f64,
     limit: u32,
-) -> Solve {
+) -> Answer<Solution> {
     let starts = [0u32, 0];
     let offsets = [0u32, 0];
     let splits = [0u32];
@@ -208,7 +209,7 @@ fn solve_one(
     let nothing = [0.0; 1];
     let diagonal = [2.0];
     let inverse = [0.5];
-    if call == 0 {
+    if call == SolverCall::Plain {
         return plain(
             1,
             r,
@@ -248,7 +249,7 @@ fn solve_one(
 }
 
 // Document 01's cases 10 and 11, with a right side, a tolerance and a limit.
-pub fn one_row(call: usize, right: f64, tolerance: f64, limit: u32) -> Left {
+pub fn one_row(call: SolverCall, right: f64, tolerance: f64, limit: u32) -> Left {
     let mut r = [right; 12];
     let mut x = rising();
     let mut q = rising();

@@ -7,7 +7,7 @@ use Prim.Native.Nat.{ℕ, ◌-◌, ◌*◌, ◌/◌}
 use native.Mathlib.Omega.{arith}
 use lib.ListN.{length}
 use borrow.Author.Tests.{eqb-true, not-false}
-use Rattle.answers.specs.declared.Answer.{Answer}
+use Rattle.answers.specs.Numbers.{Answer}
 use Rattle.answers.specs.Numbers.{number_of}
 use Rattle.answers.specs.Checks.{◌when◌, first_of}
 use Rattle.answers.specs.Limits.{wrong_length}
@@ -91,13 +91,12 @@ module _ (dim o cs s d v vec : ℕ) where
 -- ---- the ends of the call: its lengths refuse it, or its words decide
 
 module _ {A : Type 0} (wrong : Bool) (dim : ℕ) (o cs s : List ℕ) (d v vec : ℕ) (answer : Answer) (new old left : A) where
-  -- k is the number of what the lengths answered, as the code has it
-  pub solve_refuses : (k : ℕ) → k ≡ number_of answer → (k ≡ 0 → ⊥)
+  pub solve_refuses : (number_of answer ≡ 0 → ⊥)
       → number_of answer ≡ first_of (byte_checks (length o) (length cs) wrong ++ solve_lengths dim (length o / 4) (length cs / 4) (length s / 4) d v vec)
       → Ends (byte_checks (length o) (length cs) wrong ++ solve_checks dim (indexes_in o) (indexes_in cs) (indexes_in s) d v vec) answer new old old
-  solve_refuses k is other first =
+  solve_refuses other first =
       ends_earlier (byte_checks (length o) (length cs) wrong ++ solve_lengths dim (length (indexes_in o)) (length (indexes_in cs)) (length (indexes_in s)) d v vec)
-      ((3 when not (valid_pattern (indexes_in o) (indexes_in cs))) ∷ (11 when not (valid_splits (indexes_in o) (indexes_in cs) (indexes_in s))) ∷ []) answer k new old (rw (length_indexes o, length_indexes cs, length_indexes s) first) is other
+      ((3 when not (valid_pattern (indexes_in o) (indexes_in cs))) ∷ (11 when not (valid_splits (indexes_in o) (indexes_in cs) (indexes_in s))) ∷ []) answer new old (rw (length_indexes o, length_indexes cs, length_indexes s) first) other
 
   pub solve_decides : first_of (byte_checks (length o) (length cs) wrong ++ solve_lengths dim (length o / 4) (length cs / 4) (length s / 4) d v vec) ≡ 0
       → Ends (solve_checks dim (indexes_in o) (indexes_in cs) (indexes_in s) d v vec) answer new old left

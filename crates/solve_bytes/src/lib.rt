@@ -37,14 +37,11 @@ fn check_solve_bytes(
         ++ solve_lengths dim (offsets / 4) (columns / 4) (splits / 4) (diagonal / 8) (values / 8) (vec / 8)) }
 {
     let torn = is_broken_value(vec);
-    let answer = check_factor_bytes(dim, offsets, columns, splits, diagonal, values, torn);
-    if answer.number() != 0 {
-        return answer;
-    }
+    check_factor_bytes(dim, offsets, columns, splits, diagonal, values, torn)?;
     if vec / 8 != dim as usize * (offsets / 4 - 1) {
-        return Answer::Refused(Refusal::Shape);
+        return Err(Refusal::Shape);
     }
-    answer
+    Ok(())
 }
 
 // The solve from bytes to bytes, in room that is lent for the words.
@@ -167,7 +164,7 @@ pub fn solve_preconditioning_vec(
         (bytes_of binary64 (solve binary64 dim (record { offsets = indexes_in offsets.now; columns = indexes_in columns.now; splits = indexes_in splits.now }) (record { diagonal = values_in binary64 diagonal.now; values = values_in binary64 values.now }) (values_in binary64 vec.old)))
         vec.old vec.new }
 {
-    let answer = check_solve_bytes(
+    check_solve_bytes(
         dim,
         offsets.len(),
         columns.len(),
@@ -175,10 +172,7 @@ pub fn solve_preconditioning_vec(
         diagonal.len(),
         values.len(),
         vec.len(),
-    );
-    if answer.number() != 0 {
-        return answer;
-    }
+    )?;
     if is_many(offsets.len(), columns.len()) {
         return solve_in_full_room(vec, dim, offsets, columns, splits, diagonal, values);
     }

@@ -6,12 +6,12 @@ use mathlib.Core.Bool.{Bool, true, false, cond}
 use mathlib.Core.Option.{Option, none, some}
 use Prim.Native.Nat.{ℕ}
 use lib.Ieee.{Float, Format}
+use Rattle.std.specs.Prelude.{Ok, Err}
+use Rattle.answers.specs.Numbers.{AnswerOf, number_of}
 use Rattle.answers.specs.Checks.{Check, none_holds}
 use Rattle.blocks.specs.Block.{plus_zero}
 use Rattle.solvers.specs.declared.Solution.{Solution}
-use Rattle.solvers.specs.declared.Solve.{Solve}
-use Rattle.solvers.specs.declared.Solve.TheVariants.{Ended, Refused}
-use Rattle.solvers.specs.Promise.{solve_number, solve_values}
+use Rattle.solvers.specs.Promise.{solve_values}
 use Rattle.solve_outcomes.specs.declared.Solved.{Solved}
 use Rattle.solve_outcomes.specs.Ends.{SolveEnds}
 use Rattle.solve_outcomes.specs.Numbers.{verdict_number, solved_of, FinishedSolve}
@@ -25,23 +25,23 @@ pub chosen : {A : Type 0} (value : Solution → A) (else : A) (solution : Soluti
 chosen value else solution true = refl
 chosen value else solution false = refl
 
-of_number : (f : Format) (result : Solve) → (solved_of f result).number ≡ solve_number result
-of_number f (Ended s) = refl
-of_number f (Refused why) = refl
+of_number : (f : Format) (result : AnswerOf Solution) → (solved_of f result).number ≡ number_of result
+of_number f (Ok s) = refl
+of_number f (Err why) = refl
 
-of_count : (f : Format) (result : Solve) → (solved_of f result).count ≡ value_or (λ s. s.count) 0 (solve_values result)
-of_count f (Ended s) = refl
-of_count f (Refused why) = refl
+of_count : (f : Format) (result : AnswerOf Solution) → (solved_of f result).count ≡ value_or (λ s. s.count) 0 (solve_values result)
+of_count f (Ok s) = refl
+of_count f (Err why) = refl
 
-of_verdict : (f : Format) (result : Solve) → (solved_of f result).verdict ≡ value_or (λ s. verdict_number s.verdict) 0 (solve_values result)
-of_verdict f (Ended s) = refl
-of_verdict f (Refused why) = refl
+of_verdict : (f : Format) (result : AnswerOf Solution) → (solved_of f result).verdict ≡ value_or (λ s. verdict_number s.verdict) 0 (solve_values result)
+of_verdict f (Ok s) = refl
+of_verdict f (Err why) = refl
 
-of_last : (f : Format) (result : Solve) → (solved_of f result).last ≡ value_or (λ s. s.last) (plus_zero f) (solve_values result)
-of_last f (Ended s) = refl
-of_last f (Refused why) = refl
+of_last : (f : Format) (result : AnswerOf Solution) → (solved_of f result).last ≡ value_or (λ s. s.last) (plus_zero f) (solve_values result)
+of_last f (Ok s) = refl
+of_last f (Err why) = refl
 
-pub finished_solve : {A : Type 0} (f : Format) (checks : List Check) (solution : Solution) (result : Solve) (solved : Solved) (new old left : A)
+pub finished_solve : {A : Type 0} (f : Format) (checks : List Check) (solution : Solution) (result : AnswerOf Solution) (solved : Solved) (new old left : A)
     → SolveEnds checks solution result new old left → solved ≡ solved_of f result → FinishedSolve f checks solution solved new old left
 finished_solve f checks solution result solved new old left end is =
     record {

@@ -6,7 +6,8 @@ ghost use Rattle.std.specs.Prelude.{◌≡◌};
 ghost use Rattle.std.specs.Float.{binary64};
 ghost use Rattle.solve_outcomes.specs.Numbers.{verdict_number, solved_of};
 
-use solvers::{Solve, Verdict};
+use answers::{Answer, Numbered};
+use solvers::{Solution, Verdict};
 
 // The verdict is 1 of Empty, 2 of Settled and 3 of Unsettled. After a refusal the count and the verdict are 0, and the last number is +0.0.
 #[repr(C)]
@@ -30,11 +31,11 @@ fn verdict_number(verdict: Verdict) -> u32
 }
 
 // An answer of a solve as numbers.
-pub fn solved_of(solve: Solve) -> Solved
+pub fn solved_of(solve: Answer<Solution>) -> Solved
     ensures { result ≡ solved_of binary64 solve }
 {
     match solve {
-        Solve::Ended(solution) => {
+        Ok(solution) => {
             let verdict = solution.verdict;
             Solved {
                 number: 0,
@@ -43,7 +44,7 @@ pub fn solved_of(solve: Solve) -> Solved
                 last: solution.last,
             }
         }
-        Solve::Refused(why) => Solved {
+        Err(why) => Solved {
             number: why.number(),
             count: 0,
             verdict: 0,

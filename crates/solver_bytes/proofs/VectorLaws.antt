@@ -6,10 +6,10 @@ use Prim.Native.Nat.{ℕ, ◌*◌, ◌/◌, ◌≤◌}
 use native.Mathlib.Omega.{arith}
 use lib.Dec.{ltb, eqb}
 use borrow.Author.Tests.{eqb-true, not-false, ltb-false}
+use Rattle.std.specs.Prelude.{Ok, Err}
+use Rattle.answers.specs.Numbers.{Answer}
 use Rattle.base.proofs.All.{or_left, or_right}
 use Rattle.answers.specs.declared.Refusal.{Refusal}
-use Rattle.answers.specs.declared.Answer.{Answer}
-use Rattle.answers.specs.declared.Answer.TheVariants.{Done, Refused}
 use Rattle.answers.specs.Numbers.{refusal_number}
 use Rattle.answers.specs.Limits.{outside_of, wrong_length, iterations_out_of_range}
 use Rattle.answers.proofs.SameAnswer.{same_number}
@@ -54,13 +54,3 @@ held_vectors dim rows numbers r x q p history inside unbroken right fewer few lo
 -- the limit
 pub limit_most : (limit : ℕ) → iterations_out_of_range limit ≡ false → limit ≤ 4096
 limit_most limit inside = ltb-false 4096 limit (or_right (ltb limit 0) (ltb 4096 limit) inside)
-
--- a refusal is not 0
-abbrev is_done : Answer → ℕ
-is_done Done = 1
-is_done (Refused why) = 0
-
-pub not_zero : (why : Refusal) → refusal_number why ≡ 0 → ⊥
-not_zero why zero_is =
-    let same = same_number (Refused why) Done zero_is (λ nine. absurd (omega (arith, zero_is, nine))) in
-    absurd (omega (arith, ap is_done same))

@@ -1,10 +1,11 @@
 -- Rooms for the words of a solver's vectors: which bytes they hold, what is read into them and what is written back. No promise of a call cites these.
 -- Definitions only.
+use Rattle.std.specs.Prelude.{Ok, Err}
+use Rattle.solvers.specs.declared.Solution.{Solution}
+use Rattle.answers.specs.Numbers.{AnswerOf}
 use Rattle.std.specs.Prelude.{◌≡◌, false, List, ℕ, ◌*◌, ◌≤◌, take, Float}
 use Rattle.std.specs.Float.{Format}
 use Rattle.answers.specs.Limits.{outside_of}
-use Rattle.solvers.specs.declared.Solve.{Solve}
-use Rattle.solvers.specs.declared.Solve.TheVariants.{Ended, Refused}
 use Rattle.solvers.specs.Promise.{Lent}
 use Rattle.wire.specs.Bytes.{values_in, bytes_of}
 use Rattle.pattern_bytes.specs.Checks.{Held}
@@ -35,13 +36,13 @@ pub record DecodedVectors (f : Format) (residual solution product direction : Li
   pub p_is : direction ≡ values_in f p
 
 -- how many numbers a solve has written to its history
-abbrev pub count_of : Solve → ℕ
-count_of (Ended ended) = ended.count
-count_of (Refused why) = 0
+abbrev pub count_of : AnswerOf Solution → ℕ
+count_of (Ok ended) = ended.count
+count_of (Err why) = 0
 
 -- what becomes of bytes when the words that a solve left are written over them
-abbrev pub written_back : Format → Solve → Lent → LentBytes → LentBytes
-written_back f (Ended ended) left old =
+abbrev pub written_back : Format → AnswerOf Solution → Lent → LentBytes → LentBytes
+written_back f (Ok ended) left old =
     record {
       r = bytes_of f left.r;
       x = bytes_of f left.x;
@@ -49,4 +50,4 @@ written_back f (Ended ended) left old =
       p = bytes_of f left.p;
       history = over_bytes (bytes_of f (take ended.count left.history)) old.history;
     }
-written_back f (Refused why) left old = old
+written_back f (Err why) left old = old

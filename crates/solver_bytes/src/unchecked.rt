@@ -2,13 +2,17 @@
 // These functions ask that the lengths have been compared, so that no user calls them.
 ghost use Rattle.std.specs.Prelude.{◌≡◌, ◌*◌, ◌≤◌, length, take};
 ghost use Rattle.std.specs.Float.{binary64};
+ghost use Rattle.lent.specs.Steps.{Dim};
+ghost use Rattle.solvers.specs.Checks.{wrong_vectors};
 ghost use Rattle.solvers.specs.Promise.{lent_of};
 ghost use Rattle.wire.specs.Bytes.{values_in, bytes_of};
 ghost use Rattle.solver_bytes.specs.Lent.{bytes_lent, over_bytes};
 ghost use Rattle.solver_bytes.specs.Rooms.{FilledVectors, DecodedVectors, count_of, written_back};
 
+use answers::Answer;
+use blocks::{One, Three, Two};
 use matrix_bytes::unchecked::decode_both;
-use solvers::Solve;
+use solvers::Solution;
 use wire::unchecked::encode;
 
 // Four vectors, decoded into room that has as many words.
@@ -53,7 +57,7 @@ pub fn write_back(
     q: &mut [u8],
     p: &mut [u8],
     history: &mut [u8],
-    solve: Solve,
+    solve: Answer<Solution>,
     residual: &[f64],
     solution: &[f64],
     product: &[f64],
@@ -67,11 +71,23 @@ pub fn write_back(
         (bytes_lent r.old x.old q.old p.old history.old) }
 {
     match solve {
-        Solve::Ended(ended) => {
+        Ok(ended) => {
             encode_both(r, x, residual, solution);
             encode_both(q, p, product, direction);
             write_numbers(history, ended.count as usize, numbers);
         }
-        Solve::Refused(_) => {}
+        Err(_) => {}
+    }
+}
+
+// Whether one of four vectors has not N values to a row, where N is a number.
+pub fn are_wrong_vectors(dim: u32, rows: usize, r: usize, x: usize, q: usize, p: usize) -> bool
+    requires { (Dim dim) × (rows ≤ 4096) }
+    ensures { result ≡ wrong_vectors rows dim r x q p }
+{
+    match dim {
+        1 => advancing::unchecked::are_wrong_vectors::<One>(rows, r, x, q, p),
+        2 => advancing::unchecked::are_wrong_vectors::<Two>(rows, r, x, q, p),
+        _ => advancing::unchecked::are_wrong_vectors::<Three>(rows, r, x, q, p),
     }
 }

@@ -2,7 +2,41 @@
 // The slices are those of conjugate_gradient and preconditioned_conjugate_gradient, in their order.
 #![tactic(auto)]
 
-use solvers::Solve;
+use answers::Answer;
+use blocks::{One, Three, Two};
+use solvers::Solution;
+
+#[derive(Clone, Copy, PartialEq, Eq)]
+pub enum SolverCall {
+    Plain,
+    Preconditioned,
+}
+
+impl SolverCall {
+    pub const ALL: [SolverCall; 2] = [SolverCall::Plain, SolverCall::Preconditioned];
+
+    pub fn name(self) -> &'static str {
+        match self {
+            SolverCall::Plain => "conjugate_gradient",
+            SolverCall::Preconditioned => "preconditioned_conjugate_gradient",
+        }
+    }
+
+    // What the vectors of the solution and of the product are called.
+    pub fn solution(self) -> &'static str {
+        match self {
+            SolverCall::Plain => "u",
+            SolverCall::Preconditioned => "x",
+        }
+    }
+
+    pub fn product(self) -> &'static str {
+        match self {
+            SolverCall::Plain => "ap",
+            SolverCall::Preconditioned => "pr",
+        }
+    }
+}
 
 pub fn plain(
     dim: usize,
@@ -17,15 +51,15 @@ pub fn plain(
     values: &[f64],
     diagonal: &[f64],
     history: &mut [f64],
-) -> Solve {
+) -> Answer<Solution> {
     match dim {
-        1 => gradient::conjugate_gradient_1(
+        1 => gradient::conjugate_gradient::<One>(
             r, u, ap, p, tolerance, limit, offsets, columns, values, diagonal, history,
         ),
-        2 => gradient::conjugate_gradient_2(
+        2 => gradient::conjugate_gradient::<Two>(
             r, u, ap, p, tolerance, limit, offsets, columns, values, diagonal, history,
         ),
-        _ => gradient::conjugate_gradient_3(
+        _ => gradient::conjugate_gradient::<Three>(
             r, u, ap, p, tolerance, limit, offsets, columns, values, diagonal, history,
         ),
     }
@@ -49,17 +83,17 @@ pub fn preconditioned(
     diagonal: &[f64],
     values: &[f64],
     history: &mut [f64],
-) -> Solve {
+) -> Answer<Solution> {
     match dim {
-        1 => preconditioned_gradient::preconditioned_conjugate_gradient_1(
+        1 => preconditioned_gradient::preconditioned_conjugate_gradient::<One>(
             r, x, pr, p, tolerance, limit, starts, entries, a_values, a_diagonal, offsets, columns,
             splits, diagonal, values, history,
         ),
-        2 => preconditioned_gradient::preconditioned_conjugate_gradient_2(
+        2 => preconditioned_gradient::preconditioned_conjugate_gradient::<Two>(
             r, x, pr, p, tolerance, limit, starts, entries, a_values, a_diagonal, offsets, columns,
             splits, diagonal, values, history,
         ),
-        _ => preconditioned_gradient::preconditioned_conjugate_gradient_3(
+        _ => preconditioned_gradient::preconditioned_conjugate_gradient::<Three>(
             r, x, pr, p, tolerance, limit, starts, entries, a_values, a_diagonal, offsets, columns,
             splits, diagonal, values, history,
         ),

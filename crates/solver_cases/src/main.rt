@@ -2,30 +2,24 @@
 // Document 01's cases 10 and 11 come first, then four rows in a ring at each N, 4,096 rows, and every refusal at its limits.
 #![tactic(auto)]
 
+use answers::{Answer, Numbered};
 use large_solves::Folded;
-use limits::Seen;
 use limits::sizes::values_a_row;
 use small_solves::{Left, one_row};
+use solver_calls::SolverCall;
 use solver_limits::{is_case_of, try_case};
-use solvers::{Solution, Solve, Verdict};
+use solvers::{Solution, Verdict};
 use std::io;
+use texts::{Bits, Values};
 
-fn print_value(rt: &impl Print, x: f64) -> io::Result<()> {
-    print!(rt; " {:016x}", words::bits_of(x))
-}
-
-// The first values of a slice, after what stands before them.
-fn print_first(rt: &impl Print, before: &[u8], values: &[f64], count: usize) -> io::Result<()> {
-    rt.write_all(before)?;
-    for x in values.iter().take(count) {
-        print_value(rt, *x)?;
-    }
-    Ok(())
-}
-
-fn print_word(rt: &impl Print, before: &[u8], word: u64) -> io::Result<()> {
-    rt.write_all(before)?;
-    print!(rt; "{word:016x}")
+// The first values of a room, after what stands before them.
+fn print_first<const ROOM: usize>(
+    rt: &impl Print,
+    before: &str,
+    values: &[f64; ROOM],
+    count: usize,
+) -> io::Result<()> {
+    print!(rt; "{before}{}", Values(&values[..count.min(ROOM)]))
 }
 
 fn print_verdict(rt: &impl Print, verdict: Verdict) -> io::Result<()> {
@@ -40,138 +34,97 @@ fn print_solution(rt: &impl Print, solution: Solution) -> io::Result<()> {
     print!(rt; ", count {}", solution.count)?;
     let verdict = solution.verdict;
     print_verdict(rt, verdict)?;
-    print!(rt; ", last")?;
-    print_value(rt, solution.last)
+    print!(rt; ", last {}", Bits(solution.last))
 }
 
-fn print_answer(rt: &impl Print, answer: Solve) -> io::Result<()> {
+fn print_answer(rt: &impl Print, answer: Answer<Solution>) -> io::Result<()> {
     print!(rt; ": number {}", answer.number())?;
     match answer {
-        Solve::Ended(solution) => print_solution(rt, solution),
-        Solve::Refused(_) => Ok(()),
+        Ok(solution) => print_solution(rt, solution),
+        Err(_) => Ok(()),
     }
 }
 
-fn print_call(rt: &impl Print, call: usize) -> io::Result<()> {
-    if call == 0 {
-        print!(rt; "conjugate_gradient")
-    } else {
-        print!(rt; "preconditioned_conjugate_gradient")
-    }
-}
-
-// What the solution and the product are called.
-fn print_solved(rt: &impl Print, call: usize) -> io::Result<()> {
-    if call == 0 {
-        print!(rt; ", u")
-    } else {
-        print!(rt; ", x")
-    }
-}
-
-fn print_product(rt: &impl Print, call: usize) -> io::Result<()> {
-    if call == 0 {
-        print!(rt; ", ap")
-    } else {
-        print!(rt; ", pr")
-    }
-}
-
-fn print_vectors(rt: &impl Print, call: usize, left: Left, count: usize) -> io::Result<()> {
+fn print_vectors(rt: &impl Print, call: SolverCall, left: Left, count: usize) -> io::Result<()> {
     let r = left.r;
     let x = left.x;
     let q = left.q;
     let p = left.p;
-    print_solved(rt, call)?;
-    print_first(rt, b"", &x, count)?;
-    print_first(rt, b", r", &r, count)?;
-    print_first(rt, b", p", &p, count)?;
-    print_product(rt, call)?;
-    print_first(rt, b"", &q, count)
+    print!(rt; ", {}", call.solution())?;
+    print_first(rt, "", &x, count)?;
+    print_first(rt, ", r", &r, count)?;
+    print_first(rt, ", p", &p, count)?;
+    print!(rt; ", {}", call.product())?;
+    print_first(rt, "", &q, count)
 }
 
-fn print_left(rt: &impl Print, call: usize, left: Left, count: usize) -> io::Result<()> {
+fn print_left(rt: &impl Print, call: SolverCall, left: Left, count: usize) -> io::Result<()> {
     let answer = left.answer;
     print_answer(rt, answer)?;
     print_vectors(rt, call, left, count)?;
     let history = left.history;
-    print_first(rt, b", history", &history, 12)?;
+    print_first(rt, ", history", &history, 12)?;
     println!(rt)
 }
 
-fn print_one_row(rt: &impl Print, name: &[u8], call: usize, left: Left) -> io::Result<()> {
-    print_call(rt, call)?;
-    rt.write_all(name)?;
+fn print_one_row(rt: &impl Print, name: &str, call: SolverCall, left: Left) -> io::Result<()> {
+    print!(rt; "{}{name}", call.name())?;
     print_left(rt, call, left, 1)
 }
 
-fn cases_of_one_row(rt: &impl Print, call: usize) -> io::Result<()> {
-    print_one_row(rt, b", case 10", call, one_row(call, 4.0, 0.5, 5))?;
+fn cases_of_one_row(rt: &impl Print, call: SolverCall) -> io::Result<()> {
+    print_one_row(rt, ", case 10", call, one_row(call, 4.0, 0.5, 5))?;
     print_one_row(
         rt,
-        b", case 10 with limit 0",
+        ", case 10 with limit 0",
         call,
         one_row(call, 4.0, 0.5, 0),
     )?;
     print_one_row(
         rt,
-        b", case 10 with tolerance 0",
+        ", case 10 with tolerance 0",
         call,
         one_row(call, 4.0, 0.0, 5),
     )?;
     print_one_row(
         rt,
-        b", case 11, 2^-27",
+        ", case 11, 2^-27",
         call,
         one_row(call, 1.0 / 134217728.0, 0.5, 5),
     )?;
     print_one_row(
         rt,
-        b", case 11, 2^-26",
+        ", case 11, 2^-26",
         call,
         one_row(call, 1.0 / 67108864.0, 0.5, 5),
     )
 }
 
-fn print_run_name(rt: &impl Print, case: usize) -> io::Result<()> {
+fn run_name(case: usize) -> &'static str {
     match case {
-        0 => print!(rt; ", settled within the limit"),
-        1 => print!(rt; ", settled at the last step"),
-        2 => print!(rt; ", a step short of that"),
-        3 => print!(rt; ", limit 0"),
-        4 => print!(rt; ", limit 1"),
-        5 => print!(rt; ", tolerance 0"),
-        6 => print!(rt; ", tolerance infinite"),
-        7 => print!(rt; ", tolerance NaN"),
-        _ => print_right_side_name(rt, case),
+        0 => "settled within the limit",
+        1 => "settled at the last step",
+        2 => "a step short of that",
+        3 => "limit 0",
+        4 => "limit 1",
+        5 => "tolerance 0",
+        6 => "tolerance infinite",
+        7 => "tolerance NaN",
+        8 => "right side 0",
+        9 => "right side -0",
+        10 => "right side subnormal",
+        11 => "just below epsilon",
+        12 => "at epsilon",
+        13 => "A of zeros",
+        14 => "an infinity in the product as lent",
+        15 => "a NaN in the right side",
+        16 => "a square that overflows",
+        _ => "rows summed apart",
     }
 }
 
-fn print_right_side_name(rt: &impl Print, case: usize) -> io::Result<()> {
-    match case {
-        8 => print!(rt; ", right side 0"),
-        9 => print!(rt; ", right side -0"),
-        10 => print!(rt; ", right side subnormal"),
-        11 => print!(rt; ", just below epsilon"),
-        12 => print!(rt; ", at epsilon"),
-        _ => print_odd_name(rt, case),
-    }
-}
-
-fn print_odd_name(rt: &impl Print, case: usize) -> io::Result<()> {
-    match case {
-        13 => print!(rt; ", A of zeros"),
-        14 => print!(rt; ", an infinity in the product as lent"),
-        15 => print!(rt; ", a NaN in the right side"),
-        16 => print!(rt; ", a square that overflows"),
-        _ => print!(rt; ", rows summed apart"),
-    }
-}
-
-fn print_run(rt: &impl Print, call: usize, dim: usize, case: usize) -> io::Result<()> {
-    print_call(rt, call)?;
-    print!(rt; "_{dim}")?;
-    print_run_name(rt, case)?;
+fn print_run(rt: &impl Print, call: SolverCall, dim: usize, case: usize) -> io::Result<()> {
+    print!(rt; "{}_{dim}, {}", call.name(), run_name(case))?;
     print_left(
         rt,
         call,
@@ -180,58 +133,37 @@ fn print_run(rt: &impl Print, call: usize, dim: usize, case: usize) -> io::Resul
     )
 }
 
-fn small_runs(rt: &impl Print, call: usize, dim: usize) -> io::Result<()> {
+fn small_runs(rt: &impl Print, call: SolverCall, dim: usize) -> io::Result<()> {
     for case in 0..18 {
         print_run(rt, call, dim, case)?;
     }
     Ok(())
 }
 
-fn print_folded(rt: &impl Print, call: usize, folded: Folded) -> io::Result<()> {
+fn print_folded(rt: &impl Print, call: SolverCall, folded: Folded) -> io::Result<()> {
     let answer = folded.answer;
     print_answer(rt, answer)?;
-    print_solved(rt, call)?;
-    print_word(rt, b" ", folded.x)?;
-    print_word(rt, b", r ", folded.r)?;
-    print_word(rt, b", p ", folded.p)?;
-    print_product(rt, call)?;
-    print_word(rt, b" ", folded.q)?;
+    print!(rt; ", {} {:016x}", call.solution(), folded.x)?;
+    print!(rt; ", r {:016x}, p {:016x}", folded.r, folded.p)?;
+    print!(rt; ", {} {:016x}", call.product(), folded.q)?;
     let history = folded.history;
-    print_first(rt, b", history", &history, 24)?;
+    print_first(rt, ", history", &history, 24)?;
     println!(rt)
 }
 
-fn large_run(rt: &impl Print, call: usize, dim: usize) -> io::Result<()> {
-    print_call(rt, call)?;
-    print!(rt; "_{dim}, 4096 rows")?;
+fn large_run(rt: &impl Print, call: SolverCall, dim: usize) -> io::Result<()> {
+    print!(rt; "{}_{dim}, 4096 rows", call.name())?;
     print_folded(rt, call, large_solves::solved(call, dim))
 }
 
-// A number of a line of cases; a call that was refused and changed a word is shouted.
-fn print_seen(rt: &impl Print, seen: Seen) -> io::Result<()> {
-    let number = seen.number;
-    print!(rt; " {number}")?;
-    if number != 0 {
-        if !seen.kept {
-            print!(rt; " CHANGED")?;
-        }
-    }
-    Ok(())
-}
-
-fn print_case(rt: &impl Print, call: usize, dim: usize, case: usize) -> io::Result<()> {
-    if is_case_of(call, dim, case) {
-        print_seen(rt, try_case(call, dim, case))
-    } else {
-        print!(rt; " -")
-    }
-}
-
-fn print_limits(rt: &impl Print, call: usize, dim: usize) -> io::Result<()> {
-    print_call(rt, call)?;
-    print!(rt; "_{dim}:")?;
+fn print_limits(rt: &impl Print, call: SolverCall, dim: usize) -> io::Result<()> {
+    print!(rt; "{}_{dim}:", call.name())?;
     for case in 0..50 {
-        print_case(rt, call, dim, case)?;
+        if is_case_of(call, dim, case) {
+            print!(rt; "{}", try_case(call, dim, case))?;
+        } else {
+            print!(rt; " -")?;
+        }
     }
     println!(rt)
 }
@@ -251,36 +183,28 @@ fn print_headings(rt: &impl Print) -> io::Result<()> {
     )
 }
 
-fn runs_at(rt: &impl Print, dim: usize) -> io::Result<()> {
-    small_runs(rt, 0, dim)?;
-    small_runs(rt, 1, dim)
-}
-
-fn large_runs_at(rt: &impl Print, dim: usize) -> io::Result<()> {
-    large_run(rt, 0, dim)?;
-    large_run(rt, 1, dim)
-}
-
-fn limits_at(rt: &impl Print, dim: usize) -> io::Result<()> {
-    print_limits(rt, 0, dim)?;
-    print_limits(rt, 1, dim)
-}
-
 fn main(rt: HostRuntime) -> io::Result<()> {
     println!(rt; "Values are printed as their 64 bits, a NaN as 7ff8000000000000.")?;
-    cases_of_one_row(&rt, 1)?;
-    cases_of_one_row(&rt, 0)?;
-    runs_at(&rt, 1)?;
-    runs_at(&rt, 2)?;
-    runs_at(&rt, 3)?;
+    cases_of_one_row(&rt, SolverCall::Preconditioned)?;
+    cases_of_one_row(&rt, SolverCall::Plain)?;
+    for dim in 1..4 {
+        for call in SolverCall::ALL {
+            small_runs(&rt, call, dim)?;
+        }
+    }
     println!(rt;
         "Vectors of 4096 rows are folded: a word turned by one bit, and the next value's bits added."
     )?;
-    large_runs_at(&rt, 1)?;
-    large_runs_at(&rt, 2)?;
-    large_runs_at(&rt, 3)?;
+    for dim in 1..4 {
+        for call in SolverCall::ALL {
+            large_run(&rt, call, dim)?;
+        }
+    }
     print_headings(&rt)?;
-    limits_at(&rt, 1)?;
-    limits_at(&rt, 2)?;
-    limits_at(&rt, 3)
+    for dim in 1..4 {
+        for call in SolverCall::ALL {
+            print_limits(&rt, call, dim)?;
+        }
+    }
+    Ok(())
 }

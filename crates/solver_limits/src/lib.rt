@@ -1,29 +1,28 @@
-// Both solvers, conjugate_gradient and preconditioned_conjugate_gradient (0, 1), at their limits: a function runs one case, by its number.
+// Both solvers, conjugate_gradient and preconditioned_conjugate_gradient at their limits: a function runs one case, by its number.
 // Nothing is printed here, so that nothing is assumed; the program `solver_cases` goes through the numbers.
 #![tactic(auto)]
 
 ghost use Rattle.std.specs.Prelude.{◌≤◌, ◌+◌};
 
+use answers::Numbered;
 use factor_shapes::{
     at_most, column_count, columns_of, diagonal_length, offset_count, offsets_of, row_count,
     splits_of, values_length, vector_length,
 };
 use limits::Seen;
-use limits::filled::{fill, is_vector_filled};
-use solver_calls::{plain, preconditioned};
+use limits::filled::{fill, is_filled};
+use solver_calls::{SolverCall, plain, preconditioned};
 
 // Cases: 0 right; 1 to 18 slices 0 to 8 short, long (r, u or x, ap or pr, p, A's values and diagonal; splits, diagonal and values of the factor);
 // 19 and 20 a history a word short, a word longer; 21 and 22 no offset, one; 23 and 24 have 4,096 and 4,097 rows without a column; 25 and 26 have 65,535 and 65,536 columns in 257 rows, at N = 1 alone;
 // 27 and 28 limits of 4,096 and 4,097; 29 an own column; 30 a column twice; 31 an offset that falls; 32 a row that is not sorted; 33 no row and a limit of 4,097; 34 that limit and r short; 35 r short and an own column.
 // Of a factor also: 36 no offset; 37 one; 38 4,097 rows; 39 65,536 columns, at N = 1 alone; 40 a row less; 41 an own column; 42 a column twice; 43 an offset that falls; 44 an unsorted row;
 // 45 and 46 a split too low, too high; 47 that and an own column; 48 that and an own column in A; 49 that and p short.
-pub fn is_case_of(call: usize, dim: usize, case: usize) -> bool {
-    if case == 25 || case == 26 || case == 39 {
-        if dim != 1 {
-            return false;
-        }
+pub fn is_case_of(call: SolverCall, dim: usize, case: usize) -> bool {
+    if matches!(case, 25 | 26 | 39) && dim != 1 {
+        return false;
     }
-    if call == 0 {
+    if call == SolverCall::Plain {
         return case < 36 && (case < 13 || case > 18);
     }
     case < 50
@@ -120,28 +119,6 @@ fn vector_in(case: usize, slice: usize, dim: usize) -> usize
     at_most(length_in(case, slice, right), 12292)
 }
 
-fn are_filled(
-    r: &[f64; 12292],
-    x: &[f64; 12292],
-    q: &[f64; 12292],
-    p: &[f64; 12292],
-    history: &[f64; 12292],
-) -> bool {
-    if !is_vector_filled(r) {
-        return false;
-    }
-    if !is_vector_filled(x) {
-        return false;
-    }
-    if !is_vector_filled(q) {
-        return false;
-    }
-    if !is_vector_filled(p) {
-        return false;
-    }
-    is_vector_filled(history)
-}
-
 // A solve with lent vectors whose words rise by one.
 fn try_plainly(
     dim: usize,
@@ -177,7 +154,9 @@ fn try_plainly(
     );
     Seen {
         number: answer.number(),
-        kept: are_filled(&r, &u, &ap, &p, &history),
+        kept: [&r, &u, &ap, &p, &history]
+            .iter()
+            .all(|room| is_filled(*room)),
     }
 }
 
@@ -244,7 +223,9 @@ fn try_with_factor(
     );
     Seen {
         number: answer.number(),
-        kept: are_filled(&r, &x, &pr, &p, &history),
+        kept: [&r, &x, &pr, &p, &history]
+            .iter()
+            .all(|room| is_filled(*room)),
     }
 }
 
@@ -299,8 +280,8 @@ fn try_preconditioned(dim: usize, case: usize) -> Seen {
     )
 }
 
-pub fn try_case(call: usize, dim: usize, case: usize) -> Seen {
-    if call == 0 {
+pub fn try_case(call: SolverCall, dim: usize, case: usize) -> Seen {
+    if call == SolverCall::Plain {
         return try_plain(dim, case);
     }
     try_preconditioned(dim, case)

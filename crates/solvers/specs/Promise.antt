@@ -1,24 +1,19 @@
 -- What a solve answers and what it leaves: its number, its values, and the five vectors lent to it.
 -- Definitions only.
+use Rattle.std.specs.Prelude.{Ok, Err}
+use Rattle.answers.specs.Numbers.{AnswerOf, number_of}
 use Rattle.std.specs.Prelude.{◌≡◌, List, ◌++◌, ℕ, length, drop, Float}
 use Rattle.std.proofs.Math.Option.{Option, none, some}
 use Rattle.answers.specs.Numbers.{refusal_number}
 use Rattle.answers.specs.Checks.{Check, first_of}
 use Rattle.answers.specs.Promise.{after}
 use Rattle.solvers.specs.declared.Solution.{Solution}
-use Rattle.solvers.specs.declared.Solve.{Solve}
-use Rattle.solvers.specs.declared.Solve.TheVariants.{Ended, Refused}
 use Rattle.solvers.specs.Method.{Run}
 
--- the number of an answer: 0 is done
-abbrev pub solve_number : Solve → ℕ
-solve_number (Ended solution) = 0
-solve_number (Refused why) = refusal_number why
-
 -- its values: the solution, if there is one. No number that a solve is refused with carries any
-abbrev pub solve_values : Solve → Option Solution
-solve_values (Ended solution) = some solution
-solve_values (Refused why) = none
+abbrev pub solve_values : AnswerOf Solution → Option Solution
+solve_values (Ok solution) = some solution
+solve_values (Err why) = none
 
 -- the vectors and the history that are lent
 pub record Lent : Type 0 where
@@ -40,7 +35,7 @@ abbrev pub left_by : Run → List Float → Lent
 left_by t history = record { r = t.end.r; x = t.end.x; q = t.end.q; p = t.end.p; history = over t.history history }
 
 -- The number is that of the first check that holds. If none does there is a solution, and the slices are as the run leaves them; else they are as they were.
-pub record Solves (checks : List Check) (t : Run) (solution : Solution) (result : Solve) (old left : Lent) : Type 0 where
-  pub number : solve_number result ≡ first_of checks
+pub record Solves (checks : List Check) (t : Run) (solution : Solution) (result : AnswerOf Solution) (old left : Lent) : Type 0 where
+  pub number : number_of result ≡ first_of checks
   pub values : solve_values result ≡ after checks (some solution) none
   pub lent : left ≡ after checks (left_by t old.history) old

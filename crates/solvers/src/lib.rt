@@ -4,9 +4,6 @@
 
 ghost use Rattle.std.specs.Prelude.{◌≡◌};
 ghost use Rattle.solvers.specs.Verdict.{preconditioned_verdict, plain_verdict};
-ghost use Rattle.solvers.specs.Promise.{solve_number};
-
-use answers::Refusal;
 
 // What a solve says of the pan: the right side was too small to solve for, a step's ratio fell below the tolerance, or none did.
 #[derive(Clone, Copy)]
@@ -22,13 +19,6 @@ pub struct Solution {
     pub count: u32,
     pub last: f64,
     pub verdict: Verdict,
-}
-
-// What a solve answers.
-#[derive(Clone, Copy)]
-pub enum Solve {
-    Ended(Solution),
-    Refused(Refusal),
 }
 
 // The tolerance of a ratio.
@@ -72,17 +62,5 @@ impl Verdict {
             return Verdict::Settled;
         }
         Verdict::Unsettled
-    }
-}
-
-impl Solve {
-    // 0 if there is a solution, else the number of the refusal.
-    pub fn number(self) -> u32
-        ensures { result ≡ solve_number self }
-    {
-        match self {
-            Solve::Ended(_) => 0,
-            Solve::Refused(why) => why.number(),
-        }
     }
 }

@@ -14,6 +14,7 @@ pub fn read_full<R: Read>(reader: &mut R, room: &mut [u8]) -> io::Result<usize>
     ensures end { IfOk result (λ n. n < length room.new → IsAtEnd (R.remaining reader.new)) }
 {
     let mut done = 0;
+    // a `while`, since a reader gives as many bytes as it has, and so nothing tells how many turns there are
     while done < room.len() {
         let n = reader.read(&mut room[done..])?;
         if n == 0 {

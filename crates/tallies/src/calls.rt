@@ -1,85 +1,106 @@
-// The calls of the list, in the list's order: first those on blocks and numbers, which the crate `block_lines` runs.
-// The calls on slices of any length are run by the crates `plate_lines`, `fill_lines`, `factor_lines` and `solver_lines`; their numbers come after.
-use crate::case::Case;
-use texts::Text;
+// The calls of the list, in the list's order, by the crate that runs their lines.
+// Each has its name, the length of a line and the answer, of the crate that it is from.
+use block_lines::BlockCall;
+use factor_lines::FactorCall;
+use fill_lines::FillCall;
+use lines::line::Line;
+use lines::pattern_lines::PatternCall;
+use lines::vector_lines::VectorCall;
+use plate_lines::MatrixCall;
+use solver_lines::SolverCall;
 
-// How many calls the list has; a name that is none has this number.
-pub const CALLS: usize = 35;
-
-// The first of the solvers.
-const SOLVERS: usize = 33;
-
-pub fn index_of(name: &[u8]) -> usize {
-    let call = block_lines::index_of(name);
-    if call < block_lines::CALLS {
-        return call;
-    }
-    let next = plate_lines::index_of(name);
-    if next < plate_lines::CALLS {
-        return block_lines::CALLS + next;
-    }
-    let third = fill_lines::index_of(name);
-    if third < fill_lines::CALLS {
-        return block_lines::CALLS + plate_lines::CALLS + third;
-    }
-    let fourth = factor_lines::index_of(name);
-    if fourth < factor_lines::CALLS {
-        return block_lines::CALLS + plate_lines::CALLS + fill_lines::CALLS + fourth;
-    }
-    SOLVERS + solver_lines::index_of(name)
+#[derive(Clone, Copy, PartialEq, Eq)]
+pub enum Call {
+    Block(BlockCall),
+    Vector(VectorCall),
+    Pattern(PatternCall),
+    Matrix(MatrixCall),
+    Fill(FillCall),
+    Factor(FactorCall),
+    Solver(SolverCall),
 }
 
-pub fn name_of(call: usize) -> Text {
-    if call < block_lines::CALLS {
-        return block_lines::name_of(call);
-    }
-    let next = call - block_lines::CALLS;
-    if next < plate_lines::CALLS {
-        return plate_lines::name_of(next);
-    }
-    let third = next - plate_lines::CALLS;
-    if third < fill_lines::CALLS {
-        return fill_lines::name_of(third);
-    }
-    let fourth = third - fill_lines::CALLS;
-    if fourth < factor_lines::CALLS {
-        return factor_lines::name_of(fourth);
-    }
-    solver_lines::name_of(fourth - factor_lines::CALLS)
-}
+impl Call {
+    pub const ALL: [Call; 35] = [
+        Call::Block(BlockCall::CheckVector),
+        Call::Block(BlockCall::Apply),
+        Call::Block(BlockCall::Product),
+        Call::Block(BlockCall::Scale),
+        Call::Block(BlockCall::Add),
+        Call::Block(BlockCall::Subtract),
+        Call::Block(BlockCall::AddBlock),
+        Call::Block(BlockCall::SubtractBlock),
+        Call::Block(BlockCall::Inverse),
+        Call::Block(BlockCall::SquareRoot),
+        Call::Vector(VectorCall::SetZero),
+        Call::Vector(VectorCall::Copy),
+        Call::Vector(VectorCall::AddScaledVector),
+        Call::Vector(VectorCall::ScaleAndAddVec),
+        Call::Vector(VectorCall::SetFixed),
+        Call::Vector(VectorCall::SetFixDofToRhsVector),
+        Call::Vector(VectorCall::Dot),
+        Call::Pattern(PatternCall::CheckPattern),
+        Call::Pattern(PatternCall::CheckEntries),
+        Call::Pattern(PatternCall::CheckFactor),
+        Call::Pattern(PatternCall::SortRow),
+        Call::Matrix(MatrixCall::MultVec),
+        Call::Matrix(MatrixCall::SetZero),
+        Call::Matrix(MatrixCall::SetFixedBc),
+        Call::Matrix(MatrixCall::Merge),
+        Call::Matrix(MatrixCall::Csrdia),
+        Call::Matrix(MatrixCall::Blkcsr),
+        Call::Fill(FillCall::Ilu0),
+        Call::Fill(FillCall::Full),
+        Call::Fill(FillCall::Iluk),
+        Call::Factor(FactorCall::CopyValue),
+        Call::Factor(FactorCall::Decompose),
+        Call::Factor(FactorCall::SolvePreconditioningVec),
+        Call::Solver(SolverCall::ConjugateGradient),
+        Call::Solver(SolverCall::PreconditionedConjugateGradient),
+    ];
 
-// Whether a line of the call has so many words.
-pub fn fits(call: usize, dim: u32, words: [u64; 128], count: usize) -> bool {
-    if call >= CALLS {
-        return false;
+    pub fn name(self) -> &'static str {
+        match self {
+            Call::Block(call) => call.name(),
+            Call::Vector(call) => call.name(),
+            Call::Pattern(call) => call.name(),
+            Call::Matrix(call) => call.name(),
+            Call::Fill(call) => call.name(),
+            Call::Factor(call) => call.name(),
+            Call::Solver(call) => call.name(),
+        }
     }
-    if call >= SOLVERS {
-        return count == solver_lines::words_of(call - SOLVERS, words);
-    }
-    if call >= block_lines::CALLS {
-        return count == lines::length::words_of(call - block_lines::CALLS, words);
-    }
-    count == block_lines::words_of(call, dim)
-}
 
-pub fn agrees(case: Case) -> bool {
-    let call = case.call;
-    let dim = case.dim;
-    let words = case.words;
-    if call < block_lines::CALLS {
-        return block_lines::agrees(call, dim, words);
+    pub fn named(name: &[u8]) -> Option<Call> {
+        Call::ALL
+            .iter()
+            .copied()
+            .find(|call| call.name().as_bytes() == name)
     }
-    let next = call - block_lines::CALLS;
-    if next < plate_lines::CALLS {
-        return plate_lines::agrees(next, dim, words);
+
+    // How many words a line of the call has.
+    pub fn words(self, dim: u32, line: &Line) -> usize {
+        match self {
+            Call::Block(call) => call.words(dim),
+            Call::Vector(call) => call.form().words(line),
+            Call::Pattern(call) => call.form().words(line),
+            Call::Matrix(call) => call.form().words(line),
+            Call::Fill(call) => call.form().words(line),
+            Call::Factor(call) => call.form().words(line),
+            Call::Solver(call) => call.words(line),
+        }
     }
-    let third = next - plate_lines::CALLS;
-    if third < fill_lines::CALLS {
-        return fill_lines::agrees(third, words);
+
+    // Whether the call answers as the original.
+    pub fn agrees(self, dim: u32, line: &Line) -> bool {
+        match self {
+            Call::Block(call) => call.agrees(dim, line),
+            Call::Vector(call) => call.agrees(dim, line),
+            Call::Pattern(call) => call.agrees(line),
+            Call::Matrix(call) => call.agrees(dim, line),
+            Call::Fill(call) => call.agrees(line),
+            Call::Factor(call) => call.agrees(dim, line),
+            Call::Solver(call) => call.agrees(dim, line),
+        }
     }
-    let fourth = third - fill_lines::CALLS;
-    if fourth < factor_lines::CALLS {
-        return factor_lines::agrees(fourth, dim, words);
-    }
-    solver_lines::agrees(fourth - factor_lines::CALLS, dim, words)
 }

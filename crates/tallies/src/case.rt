@@ -1,84 +1,50 @@
 // A line of the list taken apart: the call's name, N, and the words after it.
 // A line is `call N` and then for each word a space and 16 hexadecimal digits.
-ghost use Rattle.std.specs.Prelude.{◌≡◌, ◌*◌, ◌≤◌, length};
-
-use crate::calls::{fits, index_of};
+use crate::calls::Call;
+use lines::line::Line;
 use words::first_of;
 use words::unchecked::hex_at;
 
-// A line has at most 128 words.
+// How many bytes a word takes: a space and its digits.
+const WORD: usize = 17;
+
 #[derive(Drop)]
 pub struct Case {
-    pub good: bool,
-    pub call: usize,
+    pub call: Call,
     pub dim: u32,
-    pub words: [u64; 128],
+    pub line: Line,
 }
 
-fn malformed() -> Case {
-    Case {
-        good: false,
-        call: 0,
-        dim: 0,
-        words: [0u64; 128],
-    }
-}
-
-// The words of a text that has `count` of them, after the call and N: as many as a line of that call has.
-fn words_of(call: usize, dim: u32, text: &[u8], count: usize) -> Case
-    requires { (length text.now ≡ 17 * count) × (count ≤ 128) }
-{
+// The words of a text, if it is words and they are no more than a line may have.
+fn line_of(text: &[u8]) -> Option<Line> {
     let mut words = [0u64; 128];
-    let mut i = 0;
-    while i < count {
-        if text[17 * i] != b' ' {
-            return malformed();
+    if text.len() % WORD != 0 || text.len() / WORD > words.len() {
+        return None;
+    }
+    for (word, bytes) in words.iter_mut().zip(text.chunks_exact(WORD)) {
+        if bytes[0] != b' ' {
+            return None;
         }
-        let word = hex_at(text, 17 * i + 1);
-        if !word.good {
-            return malformed();
-        }
-        words[i] = word.value;
-        i += 1;
+        *word = hex_at(bytes, 1)?;
     }
-    if !fits(call, dim, words, count) {
-        return malformed();
-    }
-    Case {
-        good: true,
-        call,
-        dim,
-        words,
-    }
+    Some(Line { words })
 }
 
-// The case of a call and N, if the text is words.
-fn case_of(call: usize, dim: u32, text: &[u8]) -> Case {
-    let count = text.len() / 17;
-    if text.len() != 17 * count {
-        return malformed();
+// The case of a line, if it has as many words as a line of its call has.
+pub fn read(text: &[u8]) -> Option<Case> {
+    let end = first_of(text, b' ');
+    if text.len() - end < 2 {
+        return None;
     }
-    if count > 128 {
-        return malformed();
+    let dim = match text[end + 1] {
+        digit @ b'1'..=b'3' => u32::from(digit - b'0'),
+        _ => return None,
+    };
+    let words = &text[end + 2..];
+    let line = line_of(words)?;
+    let call = Call::named(&text[..end])?;
+    if words.len() / WORD != call.words(dim, &line) {
+        return None;
     }
-    words_of(call, dim, text, count)
-}
-
-pub fn read(line: &[u8]) -> Case {
-    let end = first_of(line, b' ');
-    if line.len() - end < 2 {
-        return malformed();
-    }
-    let digit = line[end + 1];
-    if digit < b'1' {
-        return malformed();
-    }
-    if digit > b'3' {
-        return malformed();
-    }
-    case_of(
-        index_of(&line[0..end]),
-        (digit - b'0') as u32,
-        &line[end + 2..],
-    )
+    Some(Case { call, dim, line })
 }

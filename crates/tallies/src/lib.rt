@@ -6,37 +6,26 @@ pub mod calls;
 pub mod case;
 pub mod tally;
 
+use case::Case;
 use tally::Tally;
-use words::first_of;
-
-fn add_case(t: Tally, line: &[u8], number: u64) -> Tally {
-    let case = case::read(line);
-    if !case.good {
-        return t.with_malformed(number);
-    }
-    let call = case.call;
-    t.with_case(call, calls::agrees(case), number)
-}
 
 // A line that starts with # is a comment.
-fn add_line(t: Tally, line: &[u8], number: u64) -> Tally {
-    if line.len() > 0 {
-        if line[0] == b'#' {
-            return t;
-        }
+fn add_line(tally: &mut Tally, text: &[u8], number: usize) {
+    if text.first() == Some(&b'#') {
+        return;
     }
-    add_case(t, line, number)
+    match case::read(text) {
+        Some(Case { call, dim, line }) => {
+            tally.add_case(call, call.agrees(dim, &line), number);
+        }
+        None => tally.add_malformed(number),
+    }
 }
 
 pub fn replay(text: &[u8]) -> Tally {
-    let mut t = Tally::new();
-    let mut number: u64 = 1;
-    let mut at: usize = 0;
-    while at < text.len() {
-        let end = at + first_of(&text[at..], b'\n');
-        t = add_line(t, &text[at..end], number);
-        number = std::num::wrapping_add_u64(number, 1);
-        at = end + 1;
+    let mut tally = Tally::new();
+    for (i, line) in text.split_inclusive(|b| *b == b'\n').enumerate() {
+        add_line(&mut tally, line.strip_suffix(b"\n").unwrap_or(line), i + 1);
     }
-    t
+    tally
 }

@@ -1,73 +1,53 @@
 // Counts of cases and of wrong ones, call by call.
 // Only the first wrong line is kept: the list is short, and the case stands in it.
-ghost use Rattle.std.specs.Prelude.{◌<◌};
+use crate::calls::Call;
+use std::fmt;
 
+#[derive(Clone, Copy, Default)]
+pub struct Count {
+    cases: u64,
+    wrong: u64,
+}
+
+impl fmt::Display for Count {
+    fn fmt<W: fmt::Write>(&self, f: &mut fmt::Formatter<W>) -> fmt::Result {
+        write!(f, "{} cases, {} wrong", self.cases, self.wrong)
+    }
+}
+
+// The counts stand in the order of the calls, and lines are named by their numbers.
 #[derive(Drop)]
 pub struct Tally {
-    pub cases: [u64; 35],
-    pub wrong: [u64; 35],
+    pub counts: [Count; 35],
     pub malformed: u64,
-    pub first_wrong: u64,
-    pub first_malformed: u64,
-}
-
-// The counts with one more at a call, if there is such a call.
-fn one_more(counts: [u64; 35], call: usize) -> [u64; 35] {
-    let mut more = counts;
-    if call < 35 {
-        more[call] = std::num::wrapping_add_u64(more[call], 1);
-    }
-    more
-}
-
-// The line that is kept, or this one where none is.
-fn first_of_both(kept: u64, number: u64) -> u64 {
-    if kept == 0 { number } else { kept }
+    pub first_wrong: Option<usize>,
+    pub first_malformed: Option<usize>,
 }
 
 impl Tally {
     pub fn new() -> Self {
         Tally {
-            cases: [0u64; 35],
-            wrong: [0u64; 35],
+            counts: [Count::default(); 35],
             malformed: 0,
-            first_wrong: 0,
-            first_malformed: 0,
+            first_wrong: None,
+            first_malformed: None,
         }
     }
 
-    pub fn with_malformed(self, number: u64) -> Self {
-        let cases = self.cases;
-        let wrong = self.wrong;
-        Tally {
-            cases,
-            wrong,
-            malformed: std::num::wrapping_add_u64(self.malformed, 1),
-            first_wrong: self.first_wrong,
-            first_malformed: first_of_both(self.first_malformed, number),
-        }
+    pub fn add_malformed(&mut self, number: usize) {
+        self.malformed = self.malformed.wrapping_add(1);
+        self.first_malformed.get_or_insert(number);
     }
 
-    pub fn with_case(self, call: usize, agrees: bool, number: u64) -> Self {
-        let old_cases = self.cases;
-        let cases = one_more(old_cases, call);
-        let wrong = self.wrong;
-        if agrees {
-            return Tally {
-                cases,
-                wrong,
-                malformed: self.malformed,
-                first_wrong: self.first_wrong,
-                first_malformed: self.first_malformed,
-            };
+    pub fn add_case(&mut self, call: Call, agrees: bool, number: usize) {
+        for (count, listed) in self.counts.iter_mut().zip(Call::ALL.iter()) {
+            if *listed == call {
+                count.cases = count.cases.wrapping_add(1);
+                count.wrong = count.wrong.wrapping_add(u64::from(!agrees));
+            }
         }
-        let more = one_more(wrong, call);
-        Tally {
-            cases,
-            wrong: more,
-            malformed: self.malformed,
-            first_wrong: first_of_both(self.first_wrong, number),
-            first_malformed: self.first_malformed,
+        if !agrees {
+            self.first_wrong.get_or_insert(number);
         }
     }
 }

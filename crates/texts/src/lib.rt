@@ -1,41 +1,28 @@
-// Short texts by value, so that a library can say what a program prints.
+// How the programs print values: each as the 16 hexadecimal digits of its bits, with a space before it.
 // Nothing is printed here, so that nothing is assumed.
 #![tactic(auto)]
 
-#[derive(Drop)]
-pub struct Text {
-    pub bytes: [u8; 160],
-    pub count: usize,
+use std::fmt;
+
+// A value as its bits; a NaN is one pattern.
+#[derive(Clone, Copy)]
+pub struct Bits(pub f64);
+
+impl fmt::Display for Bits {
+    fn fmt<W: fmt::Write>(&self, f: &mut fmt::Formatter<W>) -> fmt::Result {
+        write!(f, "{:016x}", words::bits_of(self.0))
+    }
 }
 
-// The first bytes, as many as a text has room for.
-pub fn of_bytes(bytes: &[u8]) -> Text {
-    let mut text = [0u8; 160];
-    let mut k = 0;
-    while k < 160 {
-        if k >= bytes.len() {
-            return Text {
-                bytes: text,
-                count: k,
-            };
+// Values one after the other.
+#[derive(Clone, Copy)]
+pub struct Values<'a>(pub &'a [f64]);
+
+impl fmt::Display for Values<'_> {
+    fn fmt<W: fmt::Write>(&self, f: &mut fmt::Formatter<W>) -> fmt::Result {
+        for value in self.0 {
+            write!(f, " {}", Bits(*value))?;
         }
-        text[k] = bytes[k];
-        k += 1;
+        Ok(())
     }
-    Text {
-        bytes: text,
-        count: k,
-    }
-}
-
-fn is_head(bytes: &[u8], count: usize, name: &[u8]) -> bool {
-    if count > bytes.len() {
-        return false;
-    }
-    &bytes[0..count] == name
-}
-
-pub fn is_text(text: Text, name: &[u8]) -> bool {
-    let bytes = text.bytes;
-    is_head(&bytes, text.count, name)
 }

@@ -8,9 +8,9 @@ use native.Mathlib.Omega.{arith}
 use lib.Dec.{eqb, ltb}
 use lib.Ieee.{Float, Format}
 use borrow.Author.Tests.{eq-eqb, lt-ltb, le-ltb}
+use Rattle.std.specs.Prelude.{Err}
+use Rattle.answers.specs.Numbers.{Answer, AnswerOf}
 use Rattle.answers.specs.declared.Refusal.{Refusal}
-use Rattle.answers.specs.declared.Answer.{Answer}
-use Rattle.answers.specs.declared.Answer.TheVariants.{Refused}
 use Rattle.answers.specs.Numbers.{number_of, refusal_number}
 use Rattle.answers.specs.Checks.{Check, ◌when◌, first_of, none_holds}
 use Rattle.answers.specs.Limits.{rows_out_of_range, outside_of, wrong_length, vector_checks}
@@ -18,9 +18,7 @@ use Rattle.answers.specs.Promise.{Ends}
 use Rattle.answers.proofs.CheckOrder.{none_holds_lem}
 use Rattle.vectors.specs.Checks.{pair_checks, long_flag_checks}
 use Rattle.vectors.specs.Vectors.{dot_to}
-use Rattle.vectors.specs.DotAnswers.{dot_number, dot_values, Dotted}
-use Rattle.vectors.specs.declared.Dot as Dots
-use Rattle.vectors.specs.declared.Dot.{Dot}
+use Rattle.vectors.specs.DotAnswers.{dot_values, Dotted}
 use Rattle.vectors.proofs.DotLaws.{refused_dot}
 use Rattle.vector_bytes.specs.Checks.{Lent, words, long_words, wrong_words, call_checks}
 
@@ -69,7 +67,7 @@ module _ {A : Type 0} (n d k : ℕ) (is : d ≡ k) (inside : outside_of 1 3 k �
   pub at_long_flags : (p q : ℕ) → Ends (long_flag_checks n k p q) answer new old left → Ends (call_checks n d (words 1 p ∷ long_words 1 q ∷ [])) answer new old left
   at_long_flags p q end = rw is (rw (long_same n k inside p q) at end)
 
-pub at_dot : (f : Format) (u v : List Float) (n d k p q : ℕ) → d ≡ k → outside_of 1 3 k ≡ false → (dot : Dot) → Dotted (pair_checks n k p q) (dot_to f k u v n) dot
+pub at_dot : (f : Format) (u v : List Float) (n d k p q : ℕ) → d ≡ k → outside_of 1 3 k ≡ false → (dot : AnswerOf Float) → Dotted (pair_checks n k p q) (dot_to f k u v n) dot
     → Dotted (call_checks n d (words 1 p ∷ words 1 q ∷ [])) (dot_to f d u v n) dot
 at_dot f u v n d k p q is inside dot end = rw is (rw (pair_same n k inside p q) at end)
 
@@ -85,7 +83,7 @@ other_dim (suc (suc (suc (suc d)))) one two three =
 
 module _ (n d : ℕ) (one : d ≡ 1 → ⊥) (two : d ≡ 2 → ⊥) (three : d ≡ 3 → ⊥) (lent : List Lent) (why : Refusal)
     (number : refusal_number why ≡ cond (rows_out_of_range n) 1 2) where
-  first_is : number_of (Refused why) ≡ first_of (call_checks n d lent)
+  first_is : refusal_number why ≡ first_of (call_checks n d lent)
   first_is = rw (other_dim d one two three) number
 
   some_holds : none_holds (call_checks n d lent) ≡ false
@@ -95,11 +93,11 @@ module _ (n d : ℕ) (one : d ≡ 1 → ⊥) (two : d ≡ 2 → ⊥) (three : d 
       last true = refl
       last false = refl
 
-  pub at_no_dim : {A : Type 0} (new old : A) → Ends (call_checks n d lent) (Refused why) new old old
+  pub at_no_dim : {A : Type 0} (new old : A) → Ends (call_checks n d lent) (Err why) new old old
   at_no_dim new old = record { number = first_is; lent = rw some_holds }
 
-  pub dot_at_no_dim : (sum : Float) → Dotted (call_checks n d lent) sum (Dots.TheVariants.Refused why)
-  dot_at_no_dim sum = refused_dot (call_checks n d lent) sum (Refused why) first_is refl why refl
+  pub dot_at_no_dim : (sum : Float) → Dotted (call_checks n d lent) sum (Err why)
+  dot_at_no_dim sum = refused_dot (call_checks n d lent) sum refl (Err why) why refl first_is
 
 -- ---- a call that no check refuses
 
@@ -107,8 +105,8 @@ pub done_of : {A : Type 0} (checks : List Check) (answer : Answer) (new old left
     → (number_of answer ≡ 0) × (left ≡ new)
 done_of checks answer new old left none end = (end.number ∙ none_holds_lem checks none, rw none at end.lent)
 
-pub sum_of : (checks : List Check) (sum : Float) (dot : Dot) → none_holds checks ≡ true → Dotted checks sum dot
-    → (dot_number dot ≡ 0) × (dot_values dot ≡ (sum ∷ [], []))
+pub sum_of : (checks : List Check) (sum : Float) (dot : AnswerOf Float) → none_holds checks ≡ true → Dotted checks sum dot
+    → (number_of dot ≡ 0) × (dot_values dot ≡ (sum ∷ [], []))
 sum_of checks sum dot none end = (end.number ∙ none_holds_lem checks none, rw none at end.values)
 
 -- and back: a call whose checks find nothing, and that is done
@@ -116,5 +114,5 @@ pub worked : {A : Type 0} (checks : List Check) (answer : Answer) (new old left 
     → Ends checks answer new old left
 worked checks answer new old left none number right = record { number = number ∙ sym (none_holds_lem checks none); lent = rw none right }
 
-pub summed : (checks : List Check) (sum : Float) (dot : Dot) → none_holds checks ≡ true → dot_number dot ≡ 0 → dot_values dot ≡ (sum ∷ [], []) → Dotted checks sum dot
+pub summed : (checks : List Check) (sum : Float) (dot : AnswerOf Float) → none_holds checks ≡ true → number_of dot ≡ 0 → dot_values dot ≡ (sum ∷ [], []) → Dotted checks sum dot
 summed checks sum dot none number right = record { number = number ∙ sym (none_holds_lem checks none); values = rw none right }

@@ -10,12 +10,12 @@ use lib.ListN.{length, take, get_or, replicate, length-replicate}
 use lib.Seq.{length-take-le, get_or-take}
 use lib.Ieee.{Float, Format, binary64}
 use borrow.Author.Tests.{eq-eqb, le-ltb}
+use Rattle.answers.specs.Numbers.{AnswerOf, number_of}
 use Rattle.base.proofs.Each.{each_same}
 use Rattle.answers.specs.Checks.{none_holds}
 use Rattle.answers.specs.Limits.{rows_out_of_range, outside_of}
 use Rattle.vectors.specs.Vectors.{kept_by, fix_at, fixed, dot_to}
-use Rattle.vectors.specs.DotAnswers.{dot_number, dot_values}
-use Rattle.vectors.specs.declared.Dot.{Dot}
+use Rattle.vectors.specs.DotAnswers.{dot_values}
 use Rattle.wire.specs.Bytes.{values_in, bytes_of}
 use Rattle.wire.specs.Words.{flags_in}
 use Rattle.vector_bytes.specs.Checks.{Lent, words, long_words, wrong_words, call_checks, Roomy}
@@ -115,7 +115,7 @@ bytes_to_bytes f op second s b p y₀ y x made z₀ z new is same ex ey ez em en
     ∙ made_of_bytes f op s b y₀ z₀ x same ∙ ap (result_of f op s b) ex)
 
 -- the sum of the decoded values is that of the bytes
-pub dot_of_values_lem : (f : Format) (dim n : ℕ) (a b : List ℕ) (x y : List Float) (dot : Dot) → x ≡ values_in f a → y ≡ values_in f b
-    → (dot_number dot ≡ 0) × (dot_values dot ≡ (dot_to f dim x y n ∷ [], []))
-    → (dot_number dot ≡ 0) × (dot_values dot ≡ (dot_to f dim (values_in f a) (values_in f b) n ∷ [], []))
+pub dot_of_values_lem : (f : Format) (dim n : ℕ) (a b : List ℕ) (x y : List Float) (dot : AnswerOf Float) → x ≡ values_in f a → y ≡ values_in f b
+    → (number_of dot ≡ 0) × (dot_values dot ≡ (dot_to f dim x y n ∷ [], []))
+    → (number_of dot ≡ 0) × (dot_values dot ≡ (dot_to f dim (values_in f a) (values_in f b) n ∷ [], []))
 dot_of_values_lem f dim n a b x y dot ex ey given = rw (ex, ey) at given

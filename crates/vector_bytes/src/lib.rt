@@ -11,14 +11,13 @@ ghost use Rattle.answers.specs.Checks.{first_of, none_holds};
 ghost use Rattle.answers.specs.Limits.{outside_of};
 ghost use Rattle.answers.specs.Promise.{Ends};
 ghost use Rattle.vectors.specs.Vectors.{zeroed, copied, add_scaled, scale_add, fixed, dot_to};
-ghost use Rattle.vectors.specs.DotAnswers.{dot_number, dot_values, Dotted};
+ghost use Rattle.vectors.specs.DotAnswers.{dot_values, Dotted};
 ghost use Rattle.wire.specs.Bytes.{values_in, bytes_of};
 ghost use Rattle.wire.specs.Words.{flags_in};
 ghost use Rattle.vector_bytes.specs.Checks.{words, long_words, wrong_words, call_checks, Roomy};
 ghost use Rattle.vector_bytes.specs.Operations.{second_of, lent_of, made_of, result_of, values_over, flags_over};
 
 use answers::{Answer, Refusal, Rows};
-use vectors::Dot;
 use wire::unchecked::{decode, decode_flags, encode};
 
 // What is lent beside the first vector.
@@ -95,12 +94,12 @@ fn check(second: Second, dim: u32, n: u32, p: usize, b: usize) -> Answer
     ensures { number_of result ≡ first_of (call_checks n dim (lent_of binary64 second p b)) }
 {
     if Rows(n as usize).out_of_range() {
-        return Answer::Refused(Refusal::Size);
+        return Err(Refusal::Size);
     }
     if is_misshapen(second, dim, n, p, b) {
-        return Answer::Refused(Refusal::Shape);
+        return Err(Refusal::Shape);
     }
-    Answer::Done
+    Ok(())
 }
 
 // The second slice, decoded into the room for values or for flags, which has as many as a vector of the call.
@@ -230,10 +229,7 @@ fn run(op: Operation, dim: u32, n: u32, s: f64, p: &mut [u8], b: &[u8]) -> Answe
     ensures { Ends (call_checks n dim (lent_of binary64 (second_of op) (length p.old) (length b.now))) result
         (bytes_of binary64 (result_of binary64 op s b.now (values_in binary64 p.old))) p.old p.new }
 {
-    let answer = check(second_of(op), dim, n, p.len(), b.len());
-    if answer.number() != 0 {
-        return answer;
-    }
+    check(second_of(op), dim, n, p.len(), b.len())?;
     work(p, op, dim, n, s, b)
 }
 
@@ -287,36 +283,36 @@ pub fn set_fix_dof_to_rhs_vector(dim: u32, n: u32, rhs: &mut [u8], flags: &[u8])
 }
 
 // The dot product of bytes, in room that is lent for the values.
-fn dot_in(x: &mut [f64], y: &mut [f64], dim: u32, n: u32, a: &[u8], b: &[u8]) -> Dot
+fn dot_in(x: &mut [f64], y: &mut [f64], dim: u32, n: u32, a: &[u8], b: &[u8]) -> Answer<f64>
     requires { (Roomy n dim (length x.old) (length y.old) (length y.old)) × (none_holds (call_checks n dim (words 8 (length a.now) ∷ words 8 (length b.now) ∷ [])) ≡ true) }
-    ensures { (dot_number result ≡ 0) × (dot_values result ≡ (dot_to binary64 dim (values_in binary64 a.now) (values_in binary64 b.now) n ∷ [], [])) }
+    ensures { (number_of result ≡ 0) × (dot_values result ≡ (dot_to binary64 dim (values_in binary64 a.now) (values_in binary64 b.now) n ∷ [], [])) }
 {
     decode(a, x);
     decode(b, y);
     numbered::dot(dim, n, x, y)
 }
 
-fn dot_in_small_room(dim: u32, n: u32, a: &[u8], b: &[u8], count: usize) -> Dot
+fn dot_in_small_room(dim: u32, n: u32, a: &[u8], b: &[u8], count: usize) -> Answer<f64>
     requires { (none_holds (call_checks n dim (words 8 (length a.now) ∷ words 8 (length b.now) ∷ [])) ≡ true) × (count ≡ dim * n) × (count ≤ 96) }
-    ensures { (dot_number result ≡ 0) × (dot_values result ≡ (dot_to binary64 dim (values_in binary64 a.now) (values_in binary64 b.now) n ∷ [], [])) }
+    ensures { (number_of result ≡ 0) × (dot_values result ≡ (dot_to binary64 dim (values_in binary64 a.now) (values_in binary64 b.now) n ∷ [], [])) }
 {
     let mut x = [0.0; 96];
     let mut y = [0.0; 96];
     dot_in(&mut x[..count], &mut y[..count], dim, n, a, b)
 }
 
-fn dot_in_full_room(dim: u32, n: u32, a: &[u8], b: &[u8], count: usize) -> Dot
+fn dot_in_full_room(dim: u32, n: u32, a: &[u8], b: &[u8], count: usize) -> Answer<f64>
     requires { (none_holds (call_checks n dim (words 8 (length a.now) ∷ words 8 (length b.now) ∷ [])) ≡ true) × (count ≡ dim * n) × (count ≤ 12288) }
-    ensures { (dot_number result ≡ 0) × (dot_values result ≡ (dot_to binary64 dim (values_in binary64 a.now) (values_in binary64 b.now) n ∷ [], [])) }
+    ensures { (number_of result ≡ 0) × (dot_values result ≡ (dot_to binary64 dim (values_in binary64 a.now) (values_in binary64 b.now) n ∷ [], [])) }
 {
     let mut x = [0.0; 12288];
     let mut y = [0.0; 12288];
     dot_in(&mut x[..count], &mut y[..count], dim, n, a, b)
 }
 
-fn dot_of(dim: u32, n: u32, a: &[u8], b: &[u8]) -> Dot
+fn dot_of(dim: u32, n: u32, a: &[u8], b: &[u8]) -> Answer<f64>
     requires { none_holds (call_checks n dim (words 8 (length a.now) ∷ words 8 (length b.now) ∷ [])) ≡ true }
-    ensures { (dot_number result ≡ 0) × (dot_values result ≡ (dot_to binary64 dim (values_in binary64 a.now) (values_in binary64 b.now) n ∷ [], [])) }
+    ensures { (number_of result ≡ 0) × (dot_values result ≡ (dot_to binary64 dim (values_in binary64 a.now) (values_in binary64 b.now) n ∷ [], [])) }
 {
     let count = count_of(dim, n);
     if count <= 96 {
@@ -326,12 +322,10 @@ fn dot_of(dim: u32, n: u32, a: &[u8], b: &[u8]) -> Dot
 }
 
 // The dot product.
-pub fn dot(dim: u32, n: u32, v0: &[u8], v1: &[u8]) -> Dot
+pub fn dot(dim: u32, n: u32, v0: &[u8], v1: &[u8]) -> Answer<f64>
     ensures { Dotted (call_checks n dim (words 8 (length v0.now) ∷ words 8 (length v1.now) ∷ []))
         (dot_to binary64 dim (values_in binary64 v0.now) (values_in binary64 v1.now) n) result }
 {
-    match check(Second::Values, dim, n, v0.len(), v1.len()) {
-        Answer::Done => dot_of(dim, n, v0, v1),
-        Answer::Refused(why) => Dot::Refused(why),
-    }
+    check(Second::Values, dim, n, v0.len(), v1.len())?;
+    dot_of(dim, n, v0, v1)
 }

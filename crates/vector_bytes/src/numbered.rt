@@ -10,7 +10,7 @@ ghost use Rattle.vectors.specs.DotAnswers.{Dotted};
 ghost use Rattle.vector_bytes.specs.Checks.{words, long_words, call_checks};
 
 use answers::{Answer, Refusal, Rows};
-use vectors::Dot;
+use blocks::{One, Three, Two};
 
 // Why a call at another N refuses: its rows are checked first.
 fn refusal(n: u32) -> Refusal
@@ -27,10 +27,10 @@ pub fn set_zero(dim: u32, n: u32, p: &mut [f64]) -> Answer
     ensures { Ends (call_checks n dim (words 1 (length p.old) ∷ [])) result (zeroed binary64 p.old) p.old p.new }
 {
     match dim {
-        1 => vectors::set_zero_1(n, p),
-        2 => vectors::set_zero_2(n, p),
-        3 => vectors::set_zero_3(n, p),
-        _ => Answer::Refused(refusal(n)),
+        1 => vectors::set_zero::<One>(n, p),
+        2 => vectors::set_zero::<Two>(n, p),
+        3 => vectors::set_zero::<Three>(n, p),
+        _ => Err(refusal(n)),
     }
 }
 
@@ -39,10 +39,10 @@ pub fn copy(dim: u32, n: u32, p: &mut [f64], u: &[f64]) -> Answer
     ensures { Ends (call_checks n dim (words 1 (length p.old) ∷ words 1 (length u.now) ∷ [])) result (copied u.now p.old) p.old p.new }
 {
     match dim {
-        1 => vectors::copy_1(n, p, u),
-        2 => vectors::copy_2(n, p, u),
-        3 => vectors::copy_3(n, p, u),
-        _ => Answer::Refused(refusal(n)),
+        1 => vectors::copy::<One>(n, p, u),
+        2 => vectors::copy::<Two>(n, p, u),
+        3 => vectors::copy::<Three>(n, p, u),
+        _ => Err(refusal(n)),
     }
 }
 
@@ -51,10 +51,10 @@ pub fn add_scaled_vector(dim: u32, n: u32, u: &mut [f64], alpha: f64, p: &[f64])
     ensures { Ends (call_checks n dim (words 1 (length u.old) ∷ words 1 (length p.now) ∷ [])) result (add_scaled binary64 alpha p.now u.old) u.old u.new }
 {
     match dim {
-        1 => vectors::add_scaled_vector_1(n, u, alpha, p),
-        2 => vectors::add_scaled_vector_2(n, u, alpha, p),
-        3 => vectors::add_scaled_vector_3(n, u, alpha, p),
-        _ => Answer::Refused(refusal(n)),
+        1 => vectors::add_scaled_vector::<One>(n, u, alpha, p),
+        2 => vectors::add_scaled_vector::<Two>(n, u, alpha, p),
+        3 => vectors::add_scaled_vector::<Three>(n, u, alpha, p),
+        _ => Err(refusal(n)),
     }
 }
 
@@ -63,10 +63,10 @@ pub fn scale_and_add_vec(dim: u32, n: u32, p: &mut [f64], beta: f64, r: &[f64]) 
     ensures { Ends (call_checks n dim (words 1 (length p.old) ∷ words 1 (length r.now) ∷ [])) result (scale_add binary64 beta r.now p.old) p.old p.new }
 {
     match dim {
-        1 => vectors::scale_and_add_vec_1(n, p, beta, r),
-        2 => vectors::scale_and_add_vec_2(n, p, beta, r),
-        3 => vectors::scale_and_add_vec_3(n, p, beta, r),
-        _ => Answer::Refused(refusal(n)),
+        1 => vectors::scale_and_add_vec::<One>(n, p, beta, r),
+        2 => vectors::scale_and_add_vec::<Two>(n, p, beta, r),
+        3 => vectors::scale_and_add_vec::<Three>(n, p, beta, r),
+        _ => Err(refusal(n)),
     }
 }
 
@@ -75,10 +75,10 @@ pub fn set_fixed(dim: u32, n: u32, values: &mut [f64], flags: &[i32]) -> Answer
     ensures { Ends (call_checks n dim (words 1 (length values.old) ∷ words 1 (length flags.now) ∷ [])) result (fixed binary64 flags.now values.old) values.old values.new }
 {
     match dim {
-        1 => vectors::set_fixed_1(n, values, flags),
-        2 => vectors::set_fixed_2(n, values, flags),
-        3 => vectors::set_fixed_3(n, values, flags),
-        _ => Answer::Refused(refusal(n)),
+        1 => vectors::set_fixed::<One>(n, values, flags),
+        2 => vectors::set_fixed::<Two>(n, values, flags),
+        3 => vectors::set_fixed::<Three>(n, values, flags),
+        _ => Err(refusal(n)),
     }
 }
 
@@ -87,21 +87,21 @@ pub fn set_fix_dof_to_rhs_vector(dim: u32, n: u32, rhs: &mut [f64], flags: &[i32
     ensures { Ends (call_checks n dim (words 1 (length rhs.old) ∷ long_words 1 (length flags.now) ∷ [])) result (fixed binary64 flags.now rhs.old) rhs.old rhs.new }
 {
     match dim {
-        1 => vectors::set_fix_dof_to_rhs_vector_1(n, rhs, flags),
-        2 => vectors::set_fix_dof_to_rhs_vector_2(n, rhs, flags),
-        3 => vectors::set_fix_dof_to_rhs_vector_3(n, rhs, flags),
-        _ => Answer::Refused(refusal(n)),
+        1 => vectors::set_fix_dof_to_rhs_vector::<One>(n, rhs, flags),
+        2 => vectors::set_fix_dof_to_rhs_vector::<Two>(n, rhs, flags),
+        3 => vectors::set_fix_dof_to_rhs_vector::<Three>(n, rhs, flags),
+        _ => Err(refusal(n)),
     }
 }
 
 // The dot product.
-pub fn dot(dim: u32, n: u32, v0: &[f64], v1: &[f64]) -> Dot
+pub fn dot(dim: u32, n: u32, v0: &[f64], v1: &[f64]) -> Answer<f64>
     ensures { Dotted (call_checks n dim (words 1 (length v0.now) ∷ words 1 (length v1.now) ∷ [])) (dot_to binary64 dim v0.now v1.now n) result }
 {
     match dim {
-        1 => vectors::dot_1(n, v0, v1),
-        2 => vectors::dot_2(n, v0, v1),
-        3 => vectors::dot_3(n, v0, v1),
-        _ => Dot::Refused(refusal(n)),
+        1 => vectors::dot::<One>(n, v0, v1),
+        2 => vectors::dot::<Two>(n, v0, v1),
+        3 => vectors::dot::<Three>(n, v0, v1),
+        _ => Err(refusal(n)),
     }
 }

@@ -6,6 +6,7 @@ use Prim.Native.Nat.{ℕ, suc, ◌+◌, ◌-◌, ◌*◌, ◌/◌, ◌%◌, ◌�
 use native.Mathlib.Numerals.{add-one}
 use native.Mathlib.Omega.{arith}
 use lib.ListN.{length, take, drop, get_or}
+use Rattle.std.specs.Int.{w32, w64, from_le_bytes}
 use lib.Seq.{paste, take_at, drop_at, drop-cons, drop-drop, take-suc, take-length, drop-length, take_all, length-take-le}
 use Rattle.base.specs.Each.{each}
 use Rattle.base.proofs.Each.{each_same, cons_same}
@@ -26,12 +27,12 @@ byte k bytes at j within =
     let e : at + j + 1 ≡ at + (j + 1) = omega arith in
     rw e at (next k bytes (at + j) within)
 
-pub eight_bytes : (l : List ℕ) (at : ℕ) → at + 8 ≤ length l → (a b c d e f g h : ℕ)
-    → a ≡ get_or l at 0 → b ≡ get_or l (at + 1) 0 → c ≡ get_or l (at + 2) 0 → d ≡ get_or l (at + 3) 0
-    → e ≡ get_or l (at + 4) 0 → f ≡ get_or l (at + 5) 0 → g ≡ get_or l (at + 6) 0 → h ≡ get_or l (at + 7) 0
-    → a + 256 * (b + 256 * (c + 256 * (d + 256 * (e + 256 * (f + 256 * (g + 256 * h)))))) ≡ word_of (take 8 (drop at l))
+pub eight_bytes : (l : List ℕ) (at : ℕ) → at + 8 ≤ length l
+    → from_le_bytes w64 (get_or l at 0 ∷ get_or l (at + 1) 0 ∷ get_or l (at + 2) 0 ∷ get_or l (at + 3) 0
+    ∷ get_or l (at + 4) 0 ∷ get_or l (at + 5) 0 ∷ get_or l (at + 6) 0 ∷ get_or l (at + 7) 0 ∷ [])
+    ≡ word_of (take 8 (drop at l))
 unfolding word_of
-eight_bytes l at fits a b c d e f g h pa pb pc pd pe pf pg ph =
+eight_bytes l at fits =
     omega (
       arith,
       next 7 l at (omega arith),
@@ -44,11 +45,10 @@ eight_bytes l at fits a b c d e f g h pa pb pc pd pe pf pg ph =
       byte 0 l at 7 (omega arith),
     )
 
-pub four_bytes : (l : List ℕ) (at : ℕ) → at + 4 ≤ length l → (a b c d : ℕ)
-    → a ≡ get_or l at 0 → b ≡ get_or l (at + 1) 0 → c ≡ get_or l (at + 2) 0 → d ≡ get_or l (at + 3) 0
-    → a + 256 * (b + 256 * (c + 256 * d)) ≡ word_of (take 4 (drop at l))
+pub four_bytes : (l : List ℕ) (at : ℕ) → at + 4 ≤ length l
+    → from_le_bytes w32 (get_or l at 0 ∷ get_or l (at + 1) 0 ∷ get_or l (at + 2) 0 ∷ get_or l (at + 3) 0 ∷ []) ≡ word_of (take 4 (drop at l))
 unfolding word_of
-four_bytes l at fits a b c d pa pb pc pd =
+four_bytes l at fits =
     omega (arith, next 3 l at (omega arith), byte 2 l at 1 (omega arith), byte 1 l at 2 (omega arith), byte 0 l at 3 (omega arith))
 
 -- ---- a word's bytes, one at a time: what is left of the word has the bytes that are left
@@ -81,15 +81,15 @@ shifted k i bytes =
     rw (drop-drop (k * i) k bytes, e)
 
 -- reading a word for every element of a slice reads them all
-pub read_all : {A : Type 0} (read : ℕ → A) (k : ℕ) (bytes : List ℕ) (l : List A) → each (λ i _. read (word_at k bytes i)) l ≡ map read (words_to k (length l) bytes)
+pub read_words : {A : Type 0} (read : ℕ → A) (k : ℕ) (bytes : List ℕ) (l : List A) → each (λ i _. read (word_at k bytes i)) l ≡ map read (words_to k (length l) bytes)
 unfolding each words_to
-read_all read k bytes [] = refl
-read_all {A} read k bytes (x ∷ l) =
+read_words read k bytes [] = refl
+read_words {A} read k bytes (x ∷ l) =
     let g : ℕ → A → A = λ i _. read (word_at k bytes (suc i)) in
     let h : ℕ → A → A = λ i _. read (word_at k (drop k bytes) i) in
     let step : (i : ℕ) (y : A) → i < length l → g i y ≡ h i y =
     λ i y below. ap (λ (m : List ℕ). read (word_of (take k m))) (shifted k i bytes) in
-    cons_same (ap (λ (m : ℕ). read (word_of (take k (drop m bytes)))) (none k)) (each_same g h l step ∙ read_all read k (drop k bytes) l)
+    cons_same (ap (λ (m : ℕ). read (word_of (take k (drop m bytes)))) (none k)) (each_same g h l step ∙ read_words read k (drop k bytes) l)
 
 -- ---- words written one at a time
 
@@ -131,6 +131,6 @@ pub write_none : (k : ℕ) (words bytes : List ℕ) → bytes ≡ written k word
 unfolding bytes_of_words
 write_none k words bytes = rw (none k)
 
-pub write_all : (k : ℕ) (words bytes : List ℕ) → length bytes ≡ k * length words → written k words (length words) bytes ≡ bytes_of_words k words
-write_all k words bytes long =
+pub written_all : (k : ℕ) (words bytes : List ℕ) → length bytes ≡ k * length words → written k words (length words) bytes ≡ bytes_of_words k words
+written_all k words bytes long =
     rw (take-length words, ← long, drop-length bytes, append-nil)

@@ -1,39 +1,28 @@
 // Bytes read as values, indexes and flags, and values and indexes written as bytes, for the entry points, whose checks have compared the lengths.
 // These functions ask that of their callers, so that no user calls them.
-ghost use Rattle.std.specs.Prelude.{◌≡◌, ◌+◌, ◌*◌, ◌≤◌, ◌<◌, length, take, drop};
+ghost use Rattle.std.specs.Prelude.{◌≡◌, ℕ, ◌+◌, ◌*◌, ◌≤◌, ◌<◌, length, take, drop, map};
+ghost use Rattle.std.proofs.Common.{rules};
 ghost use Rattle.std.proofs.Math.Seq.{paste};
 ghost use Rattle.std.specs.Float.{binary64};
-ghost use Rattle.wire.specs.Bytes.{word_of, bytes_of_word, values_in, bytes_of};
+ghost use Rattle.std.specs.Float.Ieee.{of_bits, to_bits};
+ghost use Rattle.wire.specs.Bytes.{word_of, bytes_of_word, words_in, bytes_of_words, values_in, bytes_of};
 ghost use Rattle.wire.specs.Words.{flag_of, indexes_in, bytes_of_indexes, flags_in};
-
-// A byte as a word.
-fn wide(byte: u8) -> u64
-    ensures { (result ≡ byte) × (result < 256) }
-{
-    byte as u64
-}
-
-// A byte as a word of four bytes.
-fn half_wide(byte: u8) -> u32
-    ensures { (result ≡ byte) × (result < 256) }
-{
-    byte as u32
-}
 
 // The word that the 8 bytes from place `at` on stand for.
 pub fn read_word(bytes: &[u8], at: usize) -> u64
     requires { at + 8 ≤ length bytes.now }
     ensures { result ≡ word_of (take 8 (drop at bytes.now)) }
 {
-    let a = wide(bytes[at]);
-    let b = wide(bytes[at + 1]);
-    let c = wide(bytes[at + 2]);
-    let d = wide(bytes[at + 3]);
-    let e = wide(bytes[at + 4]);
-    let f = wide(bytes[at + 5]);
-    let g = wide(bytes[at + 6]);
-    let h = wide(bytes[at + 7]);
-    a + 256 * (b + 256 * (c + 256 * (d + 256 * (e + 256 * (f + 256 * (g + 256 * h))))))
+    u64::from_le_bytes([
+        bytes[at],
+        bytes[at + 1],
+        bytes[at + 2],
+        bytes[at + 3],
+        bytes[at + 4],
+        bytes[at + 5],
+        bytes[at + 6],
+        bytes[at + 7],
+    ])
 }
 
 // The word that the 4 bytes from place `at` on stand for.
@@ -41,21 +30,14 @@ pub fn read_index(bytes: &[u8], at: usize) -> u32
     requires { at + 4 ≤ length bytes.now }
     ensures { result ≡ word_of (take 4 (drop at bytes.now)) }
 {
-    let a = half_wide(bytes[at]);
-    let b = half_wide(bytes[at + 1]);
-    let c = half_wide(bytes[at + 2]);
-    let d = half_wide(bytes[at + 3]);
-    a + 256 * (b + 256 * (c + 256 * d))
+    u32::from_le_bytes([bytes[at], bytes[at + 1], bytes[at + 2], bytes[at + 3]])
 }
 
-// The flag that a word stands for. No cast takes a word of 2^31 and above, so that its distance from -1 is cast.
+// The flag that a word stands for.
 fn flag_of(word: u32) -> i32
     ensures { result ≡ flag_of word }
 {
-    if word < 2147483648 {
-        return word as i32;
-    }
-    -1 - (4294967295 - word) as i32
+    word.cast_signed()
 }
 
 // The low `size` bytes of a word, from place `at` on. Each turn writes the low byte of what is left of the word.
@@ -64,11 +46,9 @@ fn write_low(bytes: &mut [u8], at: usize, word: u64, size: usize)
     ensures { bytes.new ≡ paste bytes.old at (bytes_of_word size word) size }
 {
     let mut rest = word;
-    let mut k = 0;
-    while k < size {
+    for k in 0..size {
         bytes[at + k] = (rest % 256) as u8;
         rest = rest / 256;
-        k += 1;
     }
 }
 
@@ -88,28 +68,136 @@ pub fn write_index(bytes: &mut [u8], at: usize, index: u32)
     write_low(bytes, at, index as u64, 4);
 }
 
+// What stands in bytes as words of SIZE bytes each.
+trait FromWord: Copy {
+    const SIZE: usize;
+
+    ghost SIZE: { ℕ };
+
+    ghost of_word: { ℕ → Self };
+
+    // What the word from place `at` on stands for.
+    fn read(bytes: &[u8], at: usize) -> Self
+        requires { at + SIZE ≤ length bytes.now }
+        ensures { result ≡ of_word (word_of (take SIZE (drop at bytes.now))) };
+
+    ghost has_bytes: { 0 < SIZE };
+}
+
+impl FromWord for f64 {
+    const SIZE: usize = 8;
+
+    ghost SIZE = { 8 };
+
+    ghost of_word = { of_bits binary64 };
+
+    fn read(bytes: &[u8], at: usize) -> f64 {
+        words::value_of(read_word(bytes, at))
+    }
+
+    ghost has_bytes = { Prim.search rules };
+}
+
+impl FromWord for u32 {
+    const SIZE: usize = 4;
+
+    ghost SIZE = { 4 };
+
+    ghost of_word = { λ word. word };
+
+    fn read(bytes: &[u8], at: usize) -> u32 {
+        read_index(bytes, at)
+    }
+
+    ghost has_bytes = { Prim.search rules };
+}
+
+impl FromWord for i32 {
+    const SIZE: usize = 4;
+
+    ghost SIZE = { 4 };
+
+    ghost of_word = { flag_of };
+
+    fn read(bytes: &[u8], at: usize) -> i32 {
+        flag_of(read_index(bytes, at))
+    }
+
+    ghost has_bytes = { Prim.search rules };
+}
+
+// A value with the word that it is written as, of SIZE bytes.
+trait ToWord: Copy {
+    const SIZE: usize;
+
+    ghost SIZE: { ℕ };
+
+    ghost word: { Self → ℕ };
+
+    // The word from place `at` on.
+    fn write(self, bytes: &mut [u8], at: usize)
+        requires { at + SIZE ≤ length bytes.old }
+        ensures { bytes.new ≡ paste bytes.old at (bytes_of_word SIZE (word self)) SIZE };
+}
+
+impl ToWord for f64 {
+    const SIZE: usize = 8;
+
+    ghost SIZE = { 8 };
+
+    ghost word = { to_bits binary64 };
+
+    fn write(self, bytes: &mut [u8], at: usize) {
+        write_word(bytes, at, words::bits_of(self))
+    }
+}
+
+impl ToWord for u32 {
+    const SIZE: usize = 4;
+
+    ghost SIZE = { 4 };
+
+    ghost word = { λ index. index };
+
+    fn write(self, bytes: &mut [u8], at: usize) {
+        write_index(bytes, at, self)
+    }
+}
+
+fn read_all<T: FromWord>(bytes: &[u8], items: &mut [T])
+    requires { length bytes.now ≡ T.SIZE * length items.old }
+    ensures { items.new ≡ map T.of_word (words_in T.SIZE bytes.now) }
+{
+    for (i, item) in items.iter_mut().enumerate() {
+        *item = T::read(bytes, T::SIZE * i);
+    }
+}
+
+fn write_all<T: ToWord>(items: &[T], bytes: &mut [u8])
+    requires { length bytes.old ≡ T.SIZE * length items.now }
+    ensures { bytes.new ≡ bytes_of_words T.SIZE (map T.word items.now) }
+{
+    for (i, item) in items.iter().enumerate() {
+        item.write(bytes, T::SIZE * i);
+    }
+}
+
 // The values of bytes, into a slice that has as many.
+#[tactic(auto, unfolding(crate::specs::Bytes::values_in))]
 pub fn decode(bytes: &[u8], values: &mut [f64])
     requires { length bytes.now ≡ 8 * length values.old }
     ensures { values.new ≡ values_in binary64 bytes.now }
 {
-    let mut i = 0;
-    while i < values.len() {
-        values[i] = words::value_of(read_word(bytes, 8 * i));
-        i += 1;
-    }
+    read_all(bytes, values)
 }
 
 // The bytes of values, into a slice that has as many.
+#[tactic(auto, unfolding(crate::specs::Bytes::bytes_of))]
 pub fn encode(values: &[f64], bytes: &mut [u8])
     requires { length bytes.old ≡ 8 * length values.now }
     ensures { bytes.new ≡ bytes_of binary64 values.now }
 {
-    let mut i = 0;
-    while i < values.len() {
-        write_word(bytes, 8 * i, words::bits_of(values[i]));
-        i += 1;
-    }
+    write_all(values, bytes)
 }
 
 // The indexes of bytes, into a slice that has as many.
@@ -117,11 +205,7 @@ pub fn decode_indexes(bytes: &[u8], indexes: &mut [u32])
     requires { length bytes.now ≡ 4 * length indexes.old }
     ensures { indexes.new ≡ indexes_in bytes.now }
 {
-    let mut i = 0;
-    while i < indexes.len() {
-        indexes[i] = read_index(bytes, 4 * i);
-        i += 1;
-    }
+    read_all(bytes, indexes)
 }
 
 // The bytes of indexes, into a slice that has as many.
@@ -129,21 +213,14 @@ pub fn encode_indexes(indexes: &[u32], bytes: &mut [u8])
     requires { length bytes.old ≡ 4 * length indexes.now }
     ensures { bytes.new ≡ bytes_of_indexes indexes.now }
 {
-    let mut i = 0;
-    while i < indexes.len() {
-        write_index(bytes, 4 * i, indexes[i]);
-        i += 1;
-    }
+    write_all(indexes, bytes)
 }
 
 // The flags of bytes, into a slice that has as many.
+#[tactic(auto, unfolding(crate::specs::Words::flags_in))]
 pub fn decode_flags(bytes: &[u8], flags: &mut [i32])
     requires { length bytes.now ≡ 4 * length flags.old }
     ensures { flags.new ≡ flags_in bytes.now }
 {
-    let mut i = 0;
-    while i < flags.len() {
-        flags[i] = flag_of(read_index(bytes, 4 * i));
-        i += 1;
-    }
+    read_all(bytes, flags)
 }

@@ -1,65 +1,18 @@
--- What a byte and sixteen of them say, by the tests that the code makes.
+-- What sixteen bytes say, digit by digit.
 -- Assumes nothing.
 use mathlib.Core.Path.{◌≡◌, refl, ap, ◌∙◌}
 use mathlib.Core.List.{List}
 use mathlib.Core.Logic.{inl, inr}
 use mathlib.Core.Bool.{Bool, true, false, ◌&&◌}
-use Prim.Native.Nat.{ℕ, zero, suc, ◌+◌, ◌-◌, ◌*◌, ◌^◌, ◌≤◌, ◌<◌}
+use Prim.Native.Nat.{ℕ, zero, suc, ◌+◌, ◌*◌, ◌^◌, ◌≤◌, ◌<◌}
 use native.Mathlib.Nat.{eq-or-lt_of_le, le_of_suc-le-suc, not-suc-le-zero, pow-succ', pow-le-pow_right}
 use native.Mathlib.Numerals.{add-one}
 use native.Mathlib.Omega.{arith}
-use borrow.Author.Tests.{le-leb, lt-leb, lt-ltb, le-ltb}
+use borrow.Author.Tests.{lt-ltb, le-ltb}
 use lib.Dec.{ltb, lit<}
 use lib.ListN.{get_or}
 use Rattle.words.specs.Text.{digit_value, all_digits, hex_value}
 
--- ---- a byte
-pub decimal_digit : (b : ℕ) → 48 ≤ b → b ≤ 57 → b - 48 ≡ digit_value b
-unfolding digit_value
-decimal_digit b h k = rw (le-leb _ _ h, le-leb _ _ k)
-
-module _ (b : ℕ) (above : 57 < b) where
-  past_nine : 48 ≤ b
-  past_nine = omega arith
-
-  pub small_letter : 97 ≤ b → b ≤ 102 → b - 97 + 10 ≡ digit_value b
-  unfolding digit_value
-  small_letter h k = rw (le-leb _ _ past_nine, lt-leb _ _ above, le-leb _ _ h, le-leb _ _ k)
-
-  pub capital_letter : 65 ≤ b → b ≤ 70 → b - 65 + 10 ≡ digit_value b
-  unfolding digit_value
-  capital_letter h k =
-      let l : b < 97 = omega arith in
-      rw (le-leb _ _ past_nine, lt-leb _ _ above, lt-leb _ _ l, le-leb _ _ h, le-leb _ _ k)
-
-  pub before_capitals : b < 65 → 16 ≡ digit_value b
-  unfolding digit_value
-  before_capitals h =
-      let l : b < 97 = omega arith in
-      rw (le-leb _ _ past_nine, lt-leb _ _ above, lt-leb _ _ l, lt-leb _ _ h)
-
-  pub between_letters : 70 < b → b < 97 → 16 ≡ digit_value b
-  unfolding digit_value
-  between_letters h k =
-      let l : 65 ≤ b = omega arith in
-      rw (le-leb _ _ past_nine, lt-leb _ _ above, lt-leb _ _ k, le-leb _ _ l, lt-leb _ _ h)
-
-  pub past_letters : 102 < b → 16 ≡ digit_value b
-  unfolding digit_value
-  past_letters h =
-      let l : 97 ≤ b = omega arith in
-      let k : 65 ≤ b = omega arith in
-      let m : 70 < b = omega arith in
-      rw (le-leb _ _ past_nine, lt-leb _ _ above, le-leb _ _ l, lt-leb _ _ h, le-leb _ _ k, lt-leb _ _ m)
-
-pub before_digits : (b : ℕ) → b < 48 → 16 ≡ digit_value b
-unfolding digit_value
-before_digits b h =
-    let l : b < 97 = omega arith in
-    let k : b < 65 = omega arith in
-    rw (lt-leb _ _ h, lt-leb _ _ l, lt-leb _ _ k)
-
--- ---- sixteen bytes
 pub sixteen_more : (i : ℕ) → 16 ^ (i + 1) ≡ 16 * 16 ^ i
 sixteen_more i = ap (λ (x : ℕ). 16 ^ x) (add-one i) ∙ pow-succ' 16 i
 

@@ -34,12 +34,5 @@ pub fn first_of(text: &[u8], byte: u8) -> usize
     ensures value { result ≡ first_byte byte text.now }
     ensures upper_bound { result ≤ length text.now }
 {
-    let mut i = 0;
-    while i < text.len() {
-        if text[i] == byte {
-            return i;
-        }
-        i += 1;
-    }
-    i
+    text.iter().position(|b| *b == byte).unwrap_or(text.len())
 }

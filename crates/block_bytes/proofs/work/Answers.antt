@@ -17,17 +17,17 @@ counted_out : (m : ℕ) → m ≤ 9 → length (take m zeros) ≡ m
 counted_out m few = length-take-le m zeros few
 
 pub slice_bounds-work_in-end : goal.slice_bounds-work_in-end
-slice_bounds-work_in-end c = sym (counted_out _ c.first_count-first.ensures.1)
+slice_bounds-work_in-end g c = sym (counted_out _ c.first_count-first.ensures.1)
 
 pub slice_bounds-work_in-end-2 : goal.slice_bounds-work_in-end-2
-slice_bounds-work_in-end-2 c = sym (counted_out _ c.second_count-second.ensures.1)
+slice_bounds-work_in-end-2 g c = sym (counted_out _ c.second_count-second.ensures.1)
 
 pub slice_bounds-work_in-end-3 : goal.slice_bounds-work_in-end-3
-slice_bounds-work_in-end-3 c = sym (counted_out _ c.second_count-second.ensures.1)
+slice_bounds-work_in-end-3 g c = sym (counted_out _ c.second_count-second.ensures.1)
 
 pub work_in-requires : goal.work_in-requires
-work_in-requires c =
+work_in-requires g c =
     let p = c.first_count-first in
     let q = c.second_count-second in
     let room = counted_out q.result q.ensures.1 in
-    (roomy _ _ _ _ _ _ _ c.requires.dim p.ensures.0 q.ensures.0 (counted_out p.result p.ensures.1) room room, c.requires)
+    (roomy _ _ _ _ _ _ _ c.requires.dim (rw c.DIM-n.ensures at p.ensures.0) (rw c.DIM-n.ensures at q.ensures.0) (counted_out p.result p.ensures.1) room room, c.requires)

@@ -1,5 +1,7 @@
 -- `check_copy_bytes` meets its promise: the sizes refuse it, then A, then the factor, and last the numbers of rows.
 -- Assumes nothing.
+use Rattle.std.proofs.Common.{rules}
+use Rattle.answers.proofs.SameAnswer.{passed_up}
 use mathlib.Core.Path.{◌≡◌, sym, ◌∙◌}
 use mathlib.Core.List.{◌++◌}
 use mathlib.Core.Bool.{false, ◌||◌}
@@ -17,29 +19,29 @@ returns-then-is_too_large c =
     let a = c.args in
     sym (size_refuses a.dim a.starts a.entries a.a_diagonal a.a_values a.offsets a.columns a.splits a.diagonal a.values (sym c.is_too_large.ensures ∙ c.if-is_too_large.true))
 
-pub returns-then-number-ne0 : goal.returns-then-number-ne0
-returns-then-number-ne0 c =
+pub returns-in_err-check_matrix_bytes : goal.returns-in_err-check_matrix_bytes
+returns-in_err-check_matrix_bytes c =
     let a = c.args in
-    let first = c.check_matrix_bytes-of_a.ensures in
-    first ∙ a_refuses a.dim a.starts a.entries a.a_diagonal a.a_values a.offsets a.columns a.splits a.diagonal a.values (sym c.is_too_large.ensures ∙ c.if-is_too_large.false)
-    (λ z. c.if-number-ne0.true (c.number.ensures ∙ first ∙ z))
+    let on = passed_up (search rules) c.in_err-check_matrix_bytes.ensures in
+    on.number ∙ a_refuses a.dim a.starts a.entries a.a_diagonal a.a_values a.offsets a.columns a.splits a.diagonal a.values (sym c.is_too_large.ensures ∙ c.if-is_too_large.false)
+    (λ z. on.counts (on.number ∙ z))
 
-pub returns-then-number-ne0-2 : goal.returns-then-number-ne0-2
-returns-then-number-ne0-2 c =
+pub returns-in_err-check_factor_bytes : goal.returns-in_err-check_factor_bytes
+returns-in_err-check_factor_bytes c =
     -- past the second test A is not refused, and past the third the factor
     let of_a : (let a = c.args in
-    first_of (byte_checks a.starts a.entries (misshapen a.dim a.starts a.entries a.a_values a.a_diagonal) ++ matrix_lengths a.dim (a.starts / 4) (a.entries / 4) (a.a_values / 8) (a.a_diagonal / 8)) ≡ 0) = sym c.check_matrix_bytes-of_a.ensures ∙ sym c.number.ensures ∙ c.if-number-ne0.false in
+    first_of (byte_checks a.starts a.entries (misshapen a.dim a.starts a.entries a.a_values a.a_diagonal) ++ matrix_lengths a.dim (a.starts / 4) (a.entries / 4) (a.a_values / 8) (a.a_diagonal / 8)) ≡ 0) = sym c.in_ok-check_matrix_bytes.ensures in
     let a = c.args in
-    let first = c.check_factor_bytes-answer.ensures in
-    first ∙ factor_refuses a.dim a.starts a.entries a.a_diagonal a.a_values a.offsets a.columns a.splits a.diagonal a.values of_a (λ z. c.if-number-ne0-2.true (c.number-2.ensures ∙ first ∙ z))
+    let on = passed_up (search rules) c.in_err-check_factor_bytes.ensures in
+    on.number ∙ factor_refuses a.dim a.starts a.entries a.a_diagonal a.a_values a.offsets a.columns a.splits a.diagonal a.values of_a (λ z. on.counts (on.number ∙ z))
 
 pub returns-then-offsets-starts : goal.returns-then-offsets-starts
 returns-then-offsets-starts c =
     -- past the second test A is not refused, and past the third the factor
     let of_a : (let a = c.args in
-    first_of (byte_checks a.starts a.entries (misshapen a.dim a.starts a.entries a.a_values a.a_diagonal) ++ matrix_lengths a.dim (a.starts / 4) (a.entries / 4) (a.a_values / 8) (a.a_diagonal / 8)) ≡ 0) = sym c.check_matrix_bytes-of_a.ensures ∙ sym c.number.ensures ∙ c.if-number-ne0.false in
+    first_of (byte_checks a.starts a.entries (misshapen a.dim a.starts a.entries a.a_values a.a_diagonal) ++ matrix_lengths a.dim (a.starts / 4) (a.entries / 4) (a.a_values / 8) (a.a_diagonal / 8)) ≡ 0) = sym c.in_ok-check_matrix_bytes.ensures in
     let of_factor : (let a = c.args in
-    first_of (byte_checks a.offsets a.columns (misshapen_factor a.dim a.offsets a.columns a.splits a.diagonal a.values || false) ++ factor_lengths a.dim (a.offsets / 4) (a.columns / 4) (a.splits / 4) (a.diagonal / 8) (a.values / 8)) ≡ 0) = sym c.check_factor_bytes-answer.ensures ∙ sym c.number-2.ensures ∙ c.if-number-ne0-2.false in
+    first_of (byte_checks a.offsets a.columns (misshapen_factor a.dim a.offsets a.columns a.splits a.diagonal a.values || false) ++ factor_lengths a.dim (a.offsets / 4) (a.columns / 4) (a.splits / 4) (a.diagonal / 8) (a.values / 8)) ≡ 0) = sym c.in_ok-check_factor_bytes.ensures in
     let a = c.args in
     sym (rows_differ a.dim a.starts a.entries a.a_diagonal a.a_values a.offsets a.columns a.splits a.diagonal a.values of_a of_factor c.if-offsets-starts.true)
 
@@ -47,9 +49,9 @@ pub returns : goal.returns
 returns c =
     -- past the second test A is not refused, and past the third the factor
     let of_a : (let a = c.args in
-    first_of (byte_checks a.starts a.entries (misshapen a.dim a.starts a.entries a.a_values a.a_diagonal) ++ matrix_lengths a.dim (a.starts / 4) (a.entries / 4) (a.a_values / 8) (a.a_diagonal / 8)) ≡ 0) = sym c.check_matrix_bytes-of_a.ensures ∙ sym c.number.ensures ∙ c.if-number-ne0.false in
+    first_of (byte_checks a.starts a.entries (misshapen a.dim a.starts a.entries a.a_values a.a_diagonal) ++ matrix_lengths a.dim (a.starts / 4) (a.entries / 4) (a.a_values / 8) (a.a_diagonal / 8)) ≡ 0) = sym c.in_ok-check_matrix_bytes.ensures in
     let of_factor : (let a = c.args in
-    first_of (byte_checks a.offsets a.columns (misshapen_factor a.dim a.offsets a.columns a.splits a.diagonal a.values || false) ++ factor_lengths a.dim (a.offsets / 4) (a.columns / 4) (a.splits / 4) (a.diagonal / 8) (a.values / 8)) ≡ 0) = sym c.check_factor_bytes-answer.ensures ∙ sym c.number-2.ensures ∙ c.if-number-ne0-2.false in
+    first_of (byte_checks a.offsets a.columns (misshapen_factor a.dim a.offsets a.columns a.splits a.diagonal a.values || false) ++ factor_lengths a.dim (a.offsets / 4) (a.columns / 4) (a.splits / 4) (a.diagonal / 8) (a.values / 8)) ≡ 0) = sym c.in_ok-check_factor_bytes.ensures in
     let a = c.args in
-    c.check_factor_bytes-answer.ensures ∙ of_factor
+    c.in_ok-check_factor_bytes.ensures ∙ of_factor
     ∙ sym (rows_same a.dim a.starts a.entries a.a_diagonal a.a_values a.offsets a.columns a.splits a.diagonal a.values of_a of_factor c.if-offsets-starts.false)

@@ -1,5 +1,7 @@
 -- `decompose` meets its promise: refused by the lengths of its bytes, or worked in a room that holds them.
 -- Assumes nothing.
+use Rattle.std.proofs.Common.{rules}
+use Rattle.answers.proofs.SameAnswer.{passed_up}
 use mathlib.Core.Path.{◌≡◌, sym, ◌∙◌}
 use mathlib.Core.List.{◌++◌}
 use mathlib.Core.Bool.{false, ◌||◌}
@@ -12,18 +14,19 @@ use Rattle.factor_bytes.proofs.CheckLaws.{factor_in_full, factor_in_small}
 use Rattle.decompose_bytes.proofs.EndLaws.{lengths_refuse, words_decide}
 use Rattle.decompose_bytes.proofs.decompose.Goals as goal
 
-pub returns-then-number-ne0 : goal.returns-then-number-ne0
-returns-then-number-ne0 c =
+pub returns-in_err-check_factor_bytes : goal.returns-in_err-check_factor_bytes
+returns-in_err-check_factor_bytes c =
+    let on = passed_up (search rules) c.in_err-check_factor_bytes.ensures in
     let a = c.args in
-    lengths_refuse _ a.dim a.offsets.now a.columns.now a.splits.now a.diagonal.now a.values.now c.check_factor_bytes-answer.result _ (a.diagonal.now, a.values.now) (a.diagonal.now, a.values.now) _
-    c.number.ensures c.if-number-ne0.true c.check_factor_bytes-answer.ensures
+    lengths_refuse _ a.dim a.offsets.now a.columns.now a.splits.now a.diagonal.now a.values.now c.from_residual.result _ (a.diagonal.now, a.values.now) (a.diagonal.now, a.values.now)
+    on.counts on.number
 
 pub decompose_in_full_room-requires : goal.decompose_in_full_room-requires
 decompose_in_full_room-requires c =
     -- past the test no length refuses
     let passed : (let a = c.args in
     first_of (byte_checks (length a.offsets.now) (length a.columns.now) (misshapen_factor a.dim (length a.offsets.now) (length a.columns.now) (length a.splits.now) (length a.diagonal.now) (length a.values.now) || false)
-    ++ factor_lengths a.dim (length a.offsets.now / 4) (length a.columns.now / 4) (length a.splits.now / 4) (length a.diagonal.now / 8) (length a.values.now / 8)) ≡ 0) = sym c.check_factor_bytes-answer.ensures ∙ sym c.number.ensures ∙ c.if-number-ne0.false in
+    ++ factor_lengths a.dim (length a.offsets.now / 4) (length a.columns.now / 4) (length a.splits.now / 4) (length a.diagonal.now / 8) (length a.values.now / 8)) ≡ 0) = sym c.in_ok-check_factor_bytes.ensures in
     factor_in_full _ _ _ _ _ _ false passed
 
 pub returns-then-is_many : goal.returns-then-is_many
@@ -31,7 +34,7 @@ returns-then-is_many c =
     -- past the test no length refuses
     let passed : (let a = c.args in
     first_of (byte_checks (length a.offsets.now) (length a.columns.now) (misshapen_factor a.dim (length a.offsets.now) (length a.columns.now) (length a.splits.now) (length a.diagonal.now) (length a.values.now) || false)
-    ++ factor_lengths a.dim (length a.offsets.now / 4) (length a.columns.now / 4) (length a.splits.now / 4) (length a.diagonal.now / 8) (length a.values.now / 8)) ≡ 0) = sym c.check_factor_bytes-answer.ensures ∙ sym c.number.ensures ∙ c.if-number-ne0.false in
+    ++ factor_lengths a.dim (length a.offsets.now / 4) (length a.columns.now / 4) (length a.splits.now / 4) (length a.diagonal.now / 8) (length a.values.now / 8)) ≡ 0) = sym c.in_ok-check_factor_bytes.ensures in
     let a = c.args in
     words_decide _ a.dim a.offsets.now a.columns.now a.splits.now a.diagonal.now a.values.now c.decompose_in_full_room.result _ _ _ passed c.decompose_in_full_room.ensures
 
@@ -40,7 +43,7 @@ decompose_in_small_room-requires c =
     -- past the test no length refuses
     let passed : (let a = c.args in
     first_of (byte_checks (length a.offsets.now) (length a.columns.now) (misshapen_factor a.dim (length a.offsets.now) (length a.columns.now) (length a.splits.now) (length a.diagonal.now) (length a.values.now) || false)
-    ++ factor_lengths a.dim (length a.offsets.now / 4) (length a.columns.now / 4) (length a.splits.now / 4) (length a.diagonal.now / 8) (length a.values.now / 8)) ≡ 0) = sym c.check_factor_bytes-answer.ensures ∙ sym c.number.ensures ∙ c.if-number-ne0.false in
+    ++ factor_lengths a.dim (length a.offsets.now / 4) (length a.columns.now / 4) (length a.splits.now / 4) (length a.diagonal.now / 8) (length a.values.now / 8)) ≡ 0) = sym c.in_ok-check_factor_bytes.ensures in
     factor_in_small _ _ _ _ _ _ false passed (sym c.is_many.ensures ∙ c.if-is_many.false)
 
 pub returns : goal.returns
@@ -48,6 +51,6 @@ returns c =
     -- past the test no length refuses
     let passed : (let a = c.args in
     first_of (byte_checks (length a.offsets.now) (length a.columns.now) (misshapen_factor a.dim (length a.offsets.now) (length a.columns.now) (length a.splits.now) (length a.diagonal.now) (length a.values.now) || false)
-    ++ factor_lengths a.dim (length a.offsets.now / 4) (length a.columns.now / 4) (length a.splits.now / 4) (length a.diagonal.now / 8) (length a.values.now / 8)) ≡ 0) = sym c.check_factor_bytes-answer.ensures ∙ sym c.number.ensures ∙ c.if-number-ne0.false in
+    ++ factor_lengths a.dim (length a.offsets.now / 4) (length a.columns.now / 4) (length a.splits.now / 4) (length a.diagonal.now / 8) (length a.values.now / 8)) ≡ 0) = sym c.in_ok-check_factor_bytes.ensures in
     let a = c.args in
     words_decide _ a.dim a.offsets.now a.columns.now a.splits.now a.diagonal.now a.values.now c.decompose_in_small_room.result _ _ _ passed c.decompose_in_small_room.ensures

@@ -1,5 +1,7 @@
 -- `assemble_checked` meets its promise: the lengths decide first, then the pattern, then the nodes and pairs.
 -- Assumes nothing.
+use Rattle.std.proofs.Common.{rules}
+use Rattle.answers.proofs.SameAnswer.{passed_up}
 use mathlib.Core.Path.{◌≡◌, refl, sym, ◌∙◌}
 use mathlib.Core.List.{List}
 use mathlib.Core.Bool.{Bool, true}
@@ -8,69 +10,71 @@ use Rattle.answers.specs.Checks.{Check, first_of, none_holds}
 use Rattle.answers.proofs.EndLaws.{none_of_zero}
 use Rattle.patterns.specs.Pattern.{valid_pattern}
 use Rattle.elements.specs.Checks.{element_lengths, pair_checks}
+use Rattle.lent.proofs.DimLaws.{dim_of}
 use Rattle.elements.proofs.CheckLaws.{sized, entries_too, fits_pattern}
 use Rattle.elements.proofs.EndsLaws.{lengths_refused, pattern_refused, later_decide}
 use Rattle.elements.proofs.assemble_checked.Goals as goal
 
-pub returns-then-number-ne0 : goal.returns-then-number-ne0
-returns-then-number-ne0 c =
+pub returns-in_err-check_element_lengths : goal.returns-in_err-check_element_lengths
+returns-in_err-check_element_lengths g c =
+    let on = passed_up (search rules) c.in_err-check_element_lengths.ensures in
     -- the checks in their three parts
     let lengths : List Check = let a = c.args in
-    element_lengths a.dim (length a.rows.now) (length a.cols.now) (length a.element.now) (length a.offsets.now) (length a.columns.now)
+    element_lengths g.S.Size.DIM (length a.rows.now) (length a.cols.now) (length a.element.now) (length a.offsets.now) (length a.columns.now)
     (length a.diagonal.now) (length a.values.now) in
     let valid : Bool = valid_pattern c.args.offsets.now c.args.columns.now in
     let later : List Check = let a = c.args in pair_checks a.rule a.rows.now a.cols.now a.offsets.now a.columns.now in
-    lengths_refused lengths later valid _ _ _ _ c.check_element_lengths-answer.ensures c.number.ensures c.if-number-ne0.true
+    lengths_refused lengths later valid _ _ _ on.number on.counts
 
 pub is_valid_pattern-requires : goal.is_valid_pattern-requires
-is_valid_pattern-requires c =
+is_valid_pattern-requires g c =
     -- the checks in their three parts
     let lengths : List Check = let a = c.args in
-    element_lengths a.dim (length a.rows.now) (length a.cols.now) (length a.element.now) (length a.offsets.now) (length a.columns.now)
+    element_lengths g.S.Size.DIM (length a.rows.now) (length a.cols.now) (length a.element.now) (length a.offsets.now) (length a.columns.now)
     (length a.diagonal.now) (length a.values.now) in
     -- past the first test no length is refused, past the second the pattern is valid
-    let passed : first_of lengths ≡ 0 = sym c.check_element_lengths-answer.ensures ∙ sym c.number.ensures ∙ c.if-number-ne0.false in
+    let passed : first_of lengths ≡ 0 = sym c.in_ok-check_element_lengths.ensures in
     let a = c.args in
-    sized a.dim (length a.rows.now) (length a.cols.now) (length a.element.now) (length a.offsets.now) (length a.columns.now) (length a.values.now)
-    (entries_too a.dim (length a.rows.now) (length a.cols.now) (length a.element.now) (length a.offsets.now) (length a.columns.now) (length a.diagonal.now) (length a.values.now) passed)
+    sized g.S.Size.DIM (length a.rows.now) (length a.cols.now) (length a.element.now) (length a.offsets.now) (length a.columns.now) (length a.values.now)
+    (entries_too g.S.Size.DIM (length a.rows.now) (length a.cols.now) (length a.element.now) (length a.offsets.now) (length a.columns.now) (length a.diagonal.now) (length a.values.now) passed)
 
 pub returns-then-not-is_valid_pattern : goal.returns-then-not-is_valid_pattern
-returns-then-not-is_valid_pattern c =
+returns-then-not-is_valid_pattern g c =
     -- the checks in their three parts
     let lengths : List Check = let a = c.args in
-    element_lengths a.dim (length a.rows.now) (length a.cols.now) (length a.element.now) (length a.offsets.now) (length a.columns.now)
+    element_lengths g.S.Size.DIM (length a.rows.now) (length a.cols.now) (length a.element.now) (length a.offsets.now) (length a.columns.now)
     (length a.diagonal.now) (length a.values.now) in
     let valid : Bool = valid_pattern c.args.offsets.now c.args.columns.now in
     let later : List Check = let a = c.args in pair_checks a.rule a.rows.now a.cols.now a.offsets.now a.columns.now in
     -- past the first test no length is refused, past the second the pattern is valid
-    let passed : first_of lengths ≡ 0 = sym c.check_element_lengths-answer.ensures ∙ sym c.number.ensures ∙ c.if-number-ne0.false in
+    let passed : first_of lengths ≡ 0 = sym c.in_ok-check_element_lengths.ensures in
     let none : none_holds lengths ≡ true = none_of_zero lengths refl passed in
     pattern_refused lengths later valid _ _ none (sym c.is_valid_pattern.ensures ∙ c.if-not-is_valid_pattern.true)
 
 pub assemble-requires : goal.assemble-requires
-assemble-requires c =
+assemble-requires g c =
     -- the checks in their three parts
     let lengths : List Check = let a = c.args in
-    element_lengths a.dim (length a.rows.now) (length a.cols.now) (length a.element.now) (length a.offsets.now) (length a.columns.now)
+    element_lengths g.S.Size.DIM (length a.rows.now) (length a.cols.now) (length a.element.now) (length a.offsets.now) (length a.columns.now)
     (length a.diagonal.now) (length a.values.now) in
     let valid : Bool = valid_pattern c.args.offsets.now c.args.columns.now in
     -- past the first test no length is refused, past the second the pattern is valid
-    let passed : first_of lengths ≡ 0 = sym c.check_element_lengths-answer.ensures ∙ sym c.number.ensures ∙ c.if-number-ne0.false in
+    let passed : first_of lengths ≡ 0 = sym c.in_ok-check_element_lengths.ensures in
     let right : valid ≡ true = sym c.is_valid_pattern.ensures ∙ c.if-not-is_valid_pattern.false in
     let a = c.args in
-    fits_pattern a.dim a.rule a.rows.now a.cols.now (length a.element.now) a.offsets.now a.columns.now (length a.diagonal.now)
-    (length a.values.now) c.requires passed right
+    fits_pattern g.S.Size.DIM a.rule a.rows.now a.cols.now (length a.element.now) a.offsets.now a.columns.now (length a.diagonal.now)
+    (length a.values.now) (dim_of g.met.S.Size.sizes) passed right
 
 pub returns : goal.returns
-returns c =
+returns g c =
     -- the checks in their three parts
     let lengths : List Check = let a = c.args in
-    element_lengths a.dim (length a.rows.now) (length a.cols.now) (length a.element.now) (length a.offsets.now) (length a.columns.now)
+    element_lengths g.S.Size.DIM (length a.rows.now) (length a.cols.now) (length a.element.now) (length a.offsets.now) (length a.columns.now)
     (length a.diagonal.now) (length a.values.now) in
     let valid : Bool = valid_pattern c.args.offsets.now c.args.columns.now in
     let later : List Check = let a = c.args in pair_checks a.rule a.rows.now a.cols.now a.offsets.now a.columns.now in
     -- past the first test no length is refused, past the second the pattern is valid
-    let passed : first_of lengths ≡ 0 = sym c.check_element_lengths-answer.ensures ∙ sym c.number.ensures ∙ c.if-number-ne0.false in
+    let passed : first_of lengths ≡ 0 = sym c.in_ok-check_element_lengths.ensures in
     let none : none_holds lengths ≡ true = none_of_zero lengths refl passed in
     let right : valid ≡ true = sym c.is_valid_pattern.ensures ∙ c.if-not-is_valid_pattern.false in
     later_decide lengths later valid _ _ none right _ _ c.assemble.ensures

@@ -1,5 +1,7 @@
 -- `check_vector_bytes` meets its promise: the bytes refuse it, or the words decide.
 -- Assumes nothing.
+use Rattle.std.proofs.Common.{rules}
+use Rattle.answers.proofs.SameAnswer.{passed_up}
 use mathlib.Core.Path.{◌≡◌, refl, sym, ◌∙◌}
 use mathlib.Core.Bool.{◌||◌}
 use Prim.Native.Nat.{◌/◌}
@@ -13,18 +15,19 @@ use Rattle.numbered.proofs.NumberedLaws.{dim_of}
 use Rattle.matrix_bytes.proofs.CheckLaws.{range_of, formed_of}
 use Rattle.matrix_bytes.proofs.check_vector_bytes.Goals as goal
 
-pub returns-then-number-ne0 : goal.returns-then-number-ne0
-returns-then-number-ne0 c =
+pub returns-in_err-check_bytes : goal.returns-in_err-check_bytes
+returns-in_err-check_bytes c =
+    let on = passed_up {answer = c.from_residual.result} (search rules) c.in_err-check_bytes.ensures in
     let a = c.args in
-    let first = rw (c.either.ensures, c.is_misshapen-wrong.ensures) at c.check_bytes-answer.ensures in
+    let first = rw (c.either.ensures, c.is_misshapen-wrong.ensures) at on.number in
     first ∙ sym (refused_earlier (byte_checks a.offsets a.columns (misshapen a.dim a.offsets a.columns a.values a.diagonal || a.broken))
-    (vector_lengths a.dim (a.offsets / 4) (a.columns / 4) (a.values / 8) (a.diagonal / 8) a.first a.second) (λ z. c.if-number-ne0.true (c.number.ensures ∙ first ∙ z)))
+    (vector_lengths a.dim (a.offsets / 4) (a.columns / 4) (a.values / 8) (a.diagonal / 8) a.first a.second) (λ z. on.counts (first ∙ z)))
 
 pub check_vectors-requires : goal.check_vectors-requires
 check_vectors-requires c =
     -- past the test the bytes are well formed
     let passed : (let a = c.args in
-    first_of (byte_checks a.offsets a.columns (misshapen a.dim a.offsets a.columns a.values a.diagonal || a.broken)) ≡ 0) = sym (rw (c.either.ensures, c.is_misshapen-wrong.ensures) at c.check_bytes-answer.ensures) ∙ sym c.number.ensures ∙ c.if-number-ne0.false in
+    first_of (byte_checks a.offsets a.columns (misshapen a.dim a.offsets a.columns a.values a.diagonal || a.broken)) ≡ 0) = sym (rw (c.either.ensures, c.is_misshapen-wrong.ensures) at c.in_ok-check_bytes.ensures) in
     let a = c.args in
     let wrong = misshapen a.dim a.offsets a.columns a.values a.diagonal in
     dim_of a.dim (range_of a.dim a.offsets a.columns a.values a.diagonal (or_left wrong a.broken (formed_of a.offsets a.columns _ passed)))
@@ -33,7 +36,7 @@ pub returns : goal.returns
 returns c =
     -- past the test the bytes are well formed
     let passed : (let a = c.args in
-    first_of (byte_checks a.offsets a.columns (misshapen a.dim a.offsets a.columns a.values a.diagonal || a.broken)) ≡ 0) = sym (rw (c.either.ensures, c.is_misshapen-wrong.ensures) at c.check_bytes-answer.ensures) ∙ sym c.number.ensures ∙ c.if-number-ne0.false in
+    first_of (byte_checks a.offsets a.columns (misshapen a.dim a.offsets a.columns a.values a.diagonal || a.broken)) ≡ 0) = sym (rw (c.either.ensures, c.is_misshapen-wrong.ensures) at c.in_ok-check_bytes.ensures) in
     let a = c.args in
     let earlier = byte_checks a.offsets a.columns (misshapen a.dim a.offsets a.columns a.values a.diagonal || a.broken) in
     c.check_vectors.ensures ∙ sym (left_to_later earlier (vector_lengths a.dim (a.offsets / 4) (a.columns / 4) (a.values / 8) (a.diagonal / 8) a.first a.second) (none_of_zero earlier refl passed))

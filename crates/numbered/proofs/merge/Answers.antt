@@ -8,17 +8,17 @@ use Rattle.numbered.proofs.merge.Goals as goal
 pub returns-in-1 : goal.returns-in-1
 returns-in-1 c =
     let a = c.args in
-    rw c.in-1.is (twice _ _ _ _ _ (too_large (length a.offsets.now) (length a.columns.now)) c.merge_1.ensures)
+    rw c.in-1.is (twice _ _ _ _ _ (too_large (length a.offsets.now) (length a.columns.now)) c.merge.ensures)
 
 pub returns-in-2 : goal.returns-in-2
 returns-in-2 c =
     let a = c.args in
-    rw c.in-2.is (twice _ _ _ _ _ (too_large (length a.offsets.now) (length a.columns.now)) c.merge_2.ensures)
+    rw c.in-2.is (twice _ _ _ _ _ (too_large (length a.offsets.now) (length a.columns.now)) c.merge-in-2.ensures)
 
 pub returns-in-3 : goal.returns-in-3
 returns-in-3 c =
     let a = c.args in
-    rw c.in-3.is (twice _ _ _ _ _ (too_large (length a.offsets.now) (length a.columns.now)) c.merge_3.ensures)
+    rw c.in-3.is (twice _ _ _ _ _ (too_large (length a.offsets.now) (length a.columns.now)) c.merge-in-3.ensures)
 
 pub returns-in_default : goal.returns-in_default
 returns-in_default c =

@@ -9,17 +9,17 @@ use Rattle.numbered_factors.proofs.copy_value.Goals as goal
 pub returns-in-1 : goal.returns-in-1
 returns-in-1 c =
     let a = c.args in
-    rw c.in-1.is (twice _ _ _ _ _ (too_large (length a.starts.now) (length a.entries.now) || too_large (length a.offsets.now) (length a.columns.now)) c.copy_value_1.ensures)
+    rw c.in-1.is (twice _ _ _ _ _ (too_large (length a.starts.now) (length a.entries.now) || too_large (length a.offsets.now) (length a.columns.now)) c.copy_value.ensures)
 
 pub returns-in-2 : goal.returns-in-2
 returns-in-2 c =
     let a = c.args in
-    rw c.in-2.is (twice _ _ _ _ _ (too_large (length a.starts.now) (length a.entries.now) || too_large (length a.offsets.now) (length a.columns.now)) c.copy_value_2.ensures)
+    rw c.in-2.is (twice _ _ _ _ _ (too_large (length a.starts.now) (length a.entries.now) || too_large (length a.offsets.now) (length a.columns.now)) c.copy_value-in-2.ensures)
 
 pub returns-in-3 : goal.returns-in-3
 returns-in-3 c =
     let a = c.args in
-    rw c.in-3.is (twice _ _ _ _ _ (too_large (length a.starts.now) (length a.entries.now) || too_large (length a.offsets.now) (length a.columns.now)) c.copy_value_3.ensures)
+    rw c.in-3.is (twice _ _ _ _ _ (too_large (length a.starts.now) (length a.entries.now) || too_large (length a.offsets.now) (length a.columns.now)) c.copy_value-in-3.ensures)
 
 pub returns-in_default : goal.returns-in_default
 returns-in_default c =

@@ -10,19 +10,19 @@ pub returns-in-1 : goal.returns-in-1
 returns-in-1 c =
     let a = c.args in
     rw c.in-1.is
-    (at_dim binary64 1 (pattern_of a.offsets.now a.columns.now a.splits.now) (factor_of a.diagonal.now a.values.now) refl _ _ c.decompose_1.ensures)
+    (at_dim binary64 1 (pattern_of a.offsets.now a.columns.now a.splits.now) (factor_of a.diagonal.now a.values.now) refl _ _ c.decompose.ensures)
 
 pub returns-in-2 : goal.returns-in-2
 returns-in-2 c =
     let a = c.args in
     rw c.in-2.is
-    (at_dim binary64 2 (pattern_of a.offsets.now a.columns.now a.splits.now) (factor_of a.diagonal.now a.values.now) refl _ _ c.decompose_2.ensures)
+    (at_dim binary64 2 (pattern_of a.offsets.now a.columns.now a.splits.now) (factor_of a.diagonal.now a.values.now) refl _ _ c.decompose-in-2.ensures)
 
 pub returns-in-3 : goal.returns-in-3
 returns-in-3 c =
     let a = c.args in
     rw c.in-3.is
-    (at_dim binary64 3 (pattern_of a.offsets.now a.columns.now a.splits.now) (factor_of a.diagonal.now a.values.now) refl _ _ c.decompose_3.ensures)
+    (at_dim binary64 3 (pattern_of a.offsets.now a.columns.now a.splits.now) (factor_of a.diagonal.now a.values.now) refl _ _ c.decompose-in-3.ensures)
 
 pub returns-in_default : goal.returns-in_default
 returns-in_default c =

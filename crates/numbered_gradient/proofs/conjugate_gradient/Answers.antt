@@ -11,17 +11,17 @@ use Rattle.numbered_gradient.proofs.conjugate_gradient.Goals as goal
 pub returns-in-1 : goal.returns-in-1
 returns-in-1 c =
     let a = c.args in
-    rw c.in-1.is (at_dim 1 refl a.limit (matrix_of a.offsets.now a.columns.now a.values.now a.diagonal.now) a.tolerance (lent_of a.r.now a.u.now a.ap.now a.p.now a.history.now) _ _ c.conjugate_gradient_1.ensures)
+    rw c.in-1.is (at_dim 1 refl a.limit (matrix_of a.offsets.now a.columns.now a.values.now a.diagonal.now) a.tolerance (lent_of a.r.now a.u.now a.ap.now a.p.now a.history.now) _ _ c.conjugate_gradient.ensures)
 
 pub returns-in-2 : goal.returns-in-2
 returns-in-2 c =
     let a = c.args in
-    rw c.in-2.is (at_dim 2 refl a.limit (matrix_of a.offsets.now a.columns.now a.values.now a.diagonal.now) a.tolerance (lent_of a.r.now a.u.now a.ap.now a.p.now a.history.now) _ _ c.conjugate_gradient_2.ensures)
+    rw c.in-2.is (at_dim 2 refl a.limit (matrix_of a.offsets.now a.columns.now a.values.now a.diagonal.now) a.tolerance (lent_of a.r.now a.u.now a.ap.now a.p.now a.history.now) _ _ c.conjugate_gradient-in-2.ensures)
 
 pub returns-in-3 : goal.returns-in-3
 returns-in-3 c =
     let a = c.args in
-    rw c.in-3.is (at_dim 3 refl a.limit (matrix_of a.offsets.now a.columns.now a.values.now a.diagonal.now) a.tolerance (lent_of a.r.now a.u.now a.ap.now a.p.now a.history.now) _ _ c.conjugate_gradient_3.ensures)
+    rw c.in-3.is (at_dim 3 refl a.limit (matrix_of a.offsets.now a.columns.now a.values.now a.diagonal.now) a.tolerance (lent_of a.r.now a.u.now a.ap.now a.p.now a.history.now) _ _ c.conjugate_gradient-in-3.ensures)
 
 pub returns-in_default : goal.returns-in_default
 returns-in_default c =

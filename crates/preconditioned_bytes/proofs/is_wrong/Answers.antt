@@ -6,6 +6,7 @@ use Prim.Native.Nat.{◌+◌, ◌-◌, ◌/◌}
 use native.Mathlib.Omega.{arith}
 use lib.Dec.{ltb, eqb}
 use borrow.Author.Tests.{eq-eqb, ne_eqb}
+use Rattle.answers.proofs.SameAnswer.{err_counts, ok_is_zero}
 use Rattle.patterns.specs.Checks.{too_large}
 use Rattle.patterns.proofs.SizeLaws.{rows_least, rows_most}
 use Rattle.matrix.specs.Checks.{wrong_values}
@@ -19,8 +20,8 @@ use Rattle.solver_bytes.specs.Checks.{broken_vectors}
 use Rattle.preconditioned_bytes.proofs.CheckLaws.{either_wrong, both_right, matrix_wrong, factor_wrong}
 use Rattle.preconditioned_bytes.proofs.is_wrong.Goals as goal
 
-pub returns-then-number-ne0 : goal.returns-then-number-ne0
-returns-then-number-ne0 c =
+pub returns-then-is_err : goal.returns-then-is_err
+returns-then-is_err c =
     -- what the parts of the condition are
     let ofMatrix : Bool = let a = c.args in misshapen a.dim a.starts a.entries a.a_values a.a_diagonal in
     let ofValues : Bool = let a = c.args in wrong_values a.dim (a.starts / 4 - 1) (a.entries / 4) (a.a_values / 8) (a.a_diagonal / 8) in
@@ -31,10 +32,10 @@ returns-then-number-ne0 c =
     wrong_vectors (a.starts / 4 - 1) a.dim (a.r / 8) (a.x / 8) (a.pr / 8) (a.p / 8) || ltb (a.history / 8) (a.limit + 2) in
     let a = c.args in
     matrix_wrong ofMatrix ofValues ofFactor (ofRows || (ofBlocks || ofVectors))
-    (either_wrong (too_large (a.starts / 4) (a.entries / 4)) ofMatrix ofValues c.requires.0 (λ z. c.if-number-ne0.true (c.number.ensures ∙ c.check_matrix_bytes.ensures ∙ z)))
+    (either_wrong (too_large (a.starts / 4) (a.entries / 4)) ofMatrix ofValues c.requires.0 (λ z. err_counts _ (sym c.is_err.ensures.value ∙ c.if-is_err.true) (c.check_matrix_bytes.ensures ∙ z)))
 
-pub returns-then-number-ne0-2 : goal.returns-then-number-ne0-2
-returns-then-number-ne0-2 c =
+pub returns-then-is_err-2 : goal.returns-then-is_err-2
+returns-then-is_err-2 c =
     -- what the parts of the condition are
     let ofMatrix : Bool = let a = c.args in misshapen a.dim a.starts a.entries a.a_values a.a_diagonal in
     let ofValues : Bool = let a = c.args in wrong_values a.dim (a.starts / 4 - 1) (a.entries / 4) (a.a_values / 8) (a.a_diagonal / 8) in
@@ -45,12 +46,12 @@ returns-then-number-ne0-2 c =
     wrong_vectors (a.starts / 4 - 1) a.dim (a.r / 8) (a.x / 8) (a.pr / 8) (a.p / 8) || ltb (a.history / 8) (a.limit + 2) in
     -- past the first test the matrix is right
     let right : (ofMatrix ≡ false) × (ofValues ≡ false) = let a = c.args in
-    both_right (too_large (a.starts / 4) (a.entries / 4)) ofMatrix ofValues (sym c.check_matrix_bytes.ensures ∙ sym c.number.ensures ∙ c.if-number-ne0.false) in
+    both_right (too_large (a.starts / 4) (a.entries / 4)) ofMatrix ofValues (sym c.check_matrix_bytes.ensures ∙ ok_is_zero _ (sym c.is_err.ensures.value ∙ c.if-is_err.false)) in
     let a = c.args in
     let first = rw c.are_broken_vectors-torn.ensures at c.check_factor_bytes.ensures in
     rw (right.0, right.1)
     (factor_wrong ofFactor ofBlocks ofRows ofVectors
-    (either_wrong (too_large (a.offsets / 4) (a.columns / 4)) ofFactor ofBlocks c.requires.1 (λ z. c.if-number-ne0-2.true (c.number-2.ensures ∙ first ∙ z))))
+    (either_wrong (too_large (a.offsets / 4) (a.columns / 4)) ofFactor ofBlocks c.requires.1 (λ z. err_counts _ (sym c.is_err-2.ensures.value ∙ c.if-is_err-2.true) (first ∙ z))))
 
 pub overflow_sub-rows : goal.overflow_sub-rows
 overflow_sub-rows c = omega (arith, rows_least (c.args.starts / 4) (c.args.entries / 4) c.requires.0)
@@ -67,11 +68,11 @@ returns-then-offsets-rows c =
     let ofBlocks : Bool = let a = c.args in wrong_factor a.dim (a.offsets / 4 - 1) (a.columns / 4) (a.splits / 4) (a.diagonal / 8) (a.values / 8) in
     -- past the first test the matrix is right
     let right : (ofMatrix ≡ false) × (ofValues ≡ false) = let a = c.args in
-    both_right (too_large (a.starts / 4) (a.entries / 4)) ofMatrix ofValues (sym c.check_matrix_bytes.ensures ∙ sym c.number.ensures ∙ c.if-number-ne0.false) in
+    both_right (too_large (a.starts / 4) (a.entries / 4)) ofMatrix ofValues (sym c.check_matrix_bytes.ensures ∙ ok_is_zero _ (sym c.is_err.ensures.value ∙ c.if-is_err.false)) in
     -- past the second test the factor and the bytes of the vectors are right
     let factor_right : (ofFactor ≡ false) × (ofBlocks ≡ false) = let a = c.args in
     let first = rw c.are_broken_vectors-torn.ensures at c.check_factor_bytes.ensures in
-    both_right (too_large (a.offsets / 4) (a.columns / 4)) ofFactor ofBlocks (sym first ∙ sym c.number-2.ensures ∙ c.if-number-ne0-2.false) in
+    both_right (too_large (a.offsets / 4) (a.columns / 4)) ofFactor ofBlocks (sym first ∙ ok_is_zero _ (sym c.is_err-2.ensures.value ∙ c.if-is_err-2.false)) in
     rw (right.0, right.1, factor_right.0, factor_right.1, ne_eqb _ _ c.if-offsets-rows.true)
 
 pub are_wrong_vectors-requires : goal.are_wrong_vectors-requires
@@ -81,7 +82,7 @@ are_wrong_vectors-requires c =
     let ofValues : Bool = let a = c.args in wrong_values a.dim (a.starts / 4 - 1) (a.entries / 4) (a.a_values / 8) (a.a_diagonal / 8) in
     -- past the first test the matrix is right
     let right : (ofMatrix ≡ false) × (ofValues ≡ false) = let a = c.args in
-    both_right (too_large (a.starts / 4) (a.entries / 4)) ofMatrix ofValues (sym c.check_matrix_bytes.ensures ∙ sym c.number.ensures ∙ c.if-number-ne0.false) in
+    both_right (too_large (a.starts / 4) (a.entries / 4)) ofMatrix ofValues (sym c.check_matrix_bytes.ensures ∙ ok_is_zero _ (sym c.is_err.ensures.value ∙ c.if-is_err.false)) in
     let a = c.args in
     (dim_of a.dim (range_of a.dim a.starts a.entries a.a_values a.a_diagonal right.0), rows_most (a.starts / 4) (a.entries / 4) c.requires.0)
 
@@ -94,11 +95,11 @@ returns-then-are_wrong_vectors c =
     let ofBlocks : Bool = let a = c.args in wrong_factor a.dim (a.offsets / 4 - 1) (a.columns / 4) (a.splits / 4) (a.diagonal / 8) (a.values / 8) in
     -- past the first test the matrix is right
     let right : (ofMatrix ≡ false) × (ofValues ≡ false) = let a = c.args in
-    both_right (too_large (a.starts / 4) (a.entries / 4)) ofMatrix ofValues (sym c.check_matrix_bytes.ensures ∙ sym c.number.ensures ∙ c.if-number-ne0.false) in
+    both_right (too_large (a.starts / 4) (a.entries / 4)) ofMatrix ofValues (sym c.check_matrix_bytes.ensures ∙ ok_is_zero _ (sym c.is_err.ensures.value ∙ c.if-is_err.false)) in
     -- past the second test the factor and the bytes of the vectors are right
     let factor_right : (ofFactor ≡ false) × (ofBlocks ≡ false) = let a = c.args in
     let first = rw c.are_broken_vectors-torn.ensures at c.check_factor_bytes.ensures in
-    both_right (too_large (a.offsets / 4) (a.columns / 4)) ofFactor ofBlocks (sym first ∙ sym c.number-2.ensures ∙ c.if-number-ne0-2.false) in
+    both_right (too_large (a.offsets / 4) (a.columns / 4)) ofFactor ofBlocks (sym first ∙ ok_is_zero _ (sym c.is_err-2.ensures.value ∙ c.if-is_err-2.false)) in
     rw (right.0, right.1, factor_right.0, factor_right.1, eq-eqb _ _ c.if-offsets-rows.false, sym c.are_wrong_vectors.ensures ∙ c.if-are_wrong_vectors.true)
 
 pub returns : goal.returns
@@ -110,9 +111,9 @@ returns c =
     let ofBlocks : Bool = let a = c.args in wrong_factor a.dim (a.offsets / 4 - 1) (a.columns / 4) (a.splits / 4) (a.diagonal / 8) (a.values / 8) in
     -- past the first test the matrix is right
     let right : (ofMatrix ≡ false) × (ofValues ≡ false) = let a = c.args in
-    both_right (too_large (a.starts / 4) (a.entries / 4)) ofMatrix ofValues (sym c.check_matrix_bytes.ensures ∙ sym c.number.ensures ∙ c.if-number-ne0.false) in
+    both_right (too_large (a.starts / 4) (a.entries / 4)) ofMatrix ofValues (sym c.check_matrix_bytes.ensures ∙ ok_is_zero _ (sym c.is_err.ensures.value ∙ c.if-is_err.false)) in
     -- past the second test the factor and the bytes of the vectors are right
     let factor_right : (ofFactor ≡ false) × (ofBlocks ≡ false) = let a = c.args in
     let first = rw c.are_broken_vectors-torn.ensures at c.check_factor_bytes.ensures in
-    both_right (too_large (a.offsets / 4) (a.columns / 4)) ofFactor ofBlocks (sym first ∙ sym c.number-2.ensures ∙ c.if-number-ne0-2.false) in
+    both_right (too_large (a.offsets / 4) (a.columns / 4)) ofFactor ofBlocks (sym first ∙ ok_is_zero _ (sym c.is_err-2.ensures.value ∙ c.if-is_err-2.false)) in
     rw (right.0, right.1, factor_right.0, factor_right.1, eq-eqb _ _ c.if-offsets-rows.false, sym c.are_wrong_vectors.ensures ∙ c.if-are_wrong_vectors.false)

@@ -11,11 +11,11 @@ pub loop-turn-preserved : goal.loop-turn-preserved
 loop-turn-preserved c =
     let l = c.loop-turn in
     let d = c.next_digit in
-    let s = turn_holds c.args.a l.root l.left l.rest l.turn d.result c.next_left-left.result l.invariant.5 l.invariant.3 l.invariant.4 d.ensures.0 c.next_left-left.ensures in
-    (search rules, two_bound (l.turn + 1) (omega arith), omega (arith, more_two l.turn, d.ensures.1), s.0, omega arith, s.1)
+    let s = turn_holds c.args.a l.root l.left l.rest l._turn d.result c.next_left-left.result l.invariant.5 l.invariant.3 l.invariant.4 d.ensures.0 c.next_left-left.ensures in
+    (search rules, two_bound (l._turn + 1) (omega arith), omega (arith, more_two l._turn, d.ensures.1), s.0, omega arith, s.1)
 
 pub returns : goal.returns
 returns c =
     let l = c.loop-turn in
-    let e : l.turn ≡ 53 = omega arith in
+    let e : l._turn ≡ 53 = omega arith in
     (record { whole = at_end c.args.a (l.root * l.root + l.left) l.rest (rw e at l.invariant.5) l.invariant.4; small = search rules }, omega arith)

@@ -1,36 +1,26 @@
--- `first_of` meets its promise: the bytes before i are other ones.
--- Assumes nothing.
-use mathlib.Core.Path.{◌≡◌, sym}
-use native.Mathlib.Omega.{arith}
-use borrow.Author.Rules.{rules}
-use borrow.Author.Tests.{eq-eqb, ne_eqb}
-use lib.ListN.{length}
-use Rattle.base.proofs.First.{first_start, first_skip, first_hit, first_end_lem}
+-- `first_of` meets its promise: the place of the first such byte, and the length where none is found, as `first_byte` counts.
+use Rattle.std.proofs.Common.{◌≡◌, ℕ, ◌+◌, List, [], ◌∷◌, ◌≢◌, sym, ◌∙◌, refl, add-one, rules}
+use Rattle.std.proofs.lemmas.Iterator.{index_from_first, IsFirst-from_position, YieldsList-from_slice}
+use borrow.Author.Tests.{tests, eq-eqb, ne_eqb}
+use Rattle.base.specs.First.{first_in}
 use Rattle.words.specs.Text.{first_byte}
-use Rattle.words.proofs.first_of.Invariants.{is}
 use Rattle.words.proofs.first_of.Goals as goal
 
-pub loop-i-init : goal.loop-i-init
-loop-i-init c = (search rules, first_start (is c.args.byte) c.args.text.now)
+at_none : (byte : ℕ) → first_byte byte [] ≡ 0
+unfolding first_byte first_in
+at_none byte = refl
 
-pub returns-then-text-i : goal.returns-then-text-i
-unfolding first_byte
-returns-then-text-i c =
-    let a = c.args in record {
-      value = sym (first_hit (is a.byte) a.text.now c.loop-i.i 0 (search rules) (eq-eqb _ _ c.if-text-i.true) c.loop-i.invariant.1);
-      upper_bound = omega arith;
-    }
+at_hit : (byte x : ℕ) (xs : List ℕ) → x ≡ byte → first_byte byte (x ∷ xs) ≡ 0
+unfolding first_byte first_in
+at_hit byte x xs h = rw (eq-eqb _ _ h)
 
-pub loop-i-preserved : goal.loop-i-preserved
-loop-i-preserved c =
-    let a = c.args in
-    (omega arith, first_skip (is a.byte) a.text.now c.loop-i.i 0 (search rules) (ne_eqb _ _ c.if-text-i.false) c.loop-i.invariant.1)
+at_miss : (byte x : ℕ) (xs : List ℕ) → x ≢ byte → first_byte byte (x ∷ xs) ≡ first_byte byte xs + 1
+unfolding first_byte first_in
+at_miss byte x xs h = rw (ne_eqb _ _ h, add-one)
 
-pub returns : goal.returns
-unfolding first_byte
-returns c =
-    let a = c.args in
-    let e : c.loop-i.i ≡ length a.text.now = omega arith in record {
-      value = rw e (sym (first_end_lem (is a.byte) a.text.now c.loop-i.i (search rules) (search rules) c.loop-i.invariant.1));
-      upper_bound = omega arith;
-    }
+pub returns-clause-value : goal.returns-clause-value
+returns-clause-value c =
+    let byte = c.args.byte in
+    let text = c.args.text.now in
+    let first = IsFirst-from_position _ _ _ (λ x. x ≡ byte) (λ x. x ≢ byte) c.position.ensures.ran (YieldsList-from_slice text cc) (λ x q k. search (rules, tests)) (λ x q k. search (rules, tests)) in
+    c.unwrap_or.ensures ∙ sym (index_from_first (first_byte byte) (λ x. x ≡ byte) (λ x. x ≢ byte) (at_none byte) (at_hit byte) (at_miss byte) text _ first)

@@ -3,17 +3,8 @@
 use mathlib.Core.Path.{◌≡◌}
 use Prim.Native.Nat.{◌+◌}
 use native.Mathlib.Omega.{arith}
-use Rattle.copy_check.proofs.StampLaws.{unsure, takes_on, takes_to}
+use Rattle.copy_check.proofs.StampLaws.{takes_on, takes_to}
 use Rattle.copy_check.proofs.unchecked.are_four_taken.Goals as goal
-
-pub returns-then-not-is_next_taken : goal.returns-then-not-is_next_taken
-returns-then-not-is_next_taken c = (c.is_next_taken.ensures.0, λ e. unsure e)
-
-pub returns-then-not-is_next_taken-2 : goal.returns-then-not-is_next_taken-2
-returns-then-not-is_next_taken-2 c = (c.is_next_taken-2.ensures.0, λ e. unsure e)
-
-pub returns-then-not-is_next_taken-3 : goal.returns-then-not-is_next_taken-3
-returns-then-not-is_next_taken-3 c = (c.is_next_taken-3.ensures.0, λ e. unsure e)
 
 pub returns : goal.returns
 returns c =

@@ -2,7 +2,6 @@
 -- Assumes nothing.
 use mathlib.Core.Path.{◌≡◌}
 use mathlib.Core.Bool.{true}
-use Prim.Native.Nat.{◌-◌, ◌≤◌}
 use lib.ListN.{length}
 use Rattle.base.specs.All.{all_to}
 use Rattle.patterns.specs.Pattern.{row_of}
@@ -11,7 +10,4 @@ use Rattle.copy_check.proofs.unchecked.has_all_places.Given as goal
 
 abbrev pub invariant-loop-i : goal.invariant-loop-i
 invariant-loop-i l =
-    (length l.marks ≡ 4096) × (l.i ≤ l.rows) × (all_to (λ k. row_has_places (row_of l.offsets l.columns k) (row_of l.starts l.entries k)) l.i ≡ true)
-
-abbrev pub decreases-loop-i : goal.decreases-loop-i
-decreases-loop-i l = l.rows - l.i
+    (length l.marks ≡ 4096) × (all_to (λ k. row_has_places (row_of l.offsets l.columns k) (row_of l.starts l.entries k)) l.i ≡ true)

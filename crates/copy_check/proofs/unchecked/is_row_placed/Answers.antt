@@ -3,9 +3,6 @@
 use Rattle.copy_check.proofs.StampLaws.{take_none, placed_of}
 use Rattle.copy_check.proofs.unchecked.is_row_placed.Goals as goal
 
-pub are_all_taken-requires : goal.are_all_taken-requires
-are_all_taken-requires c = (c.stamp_row.ensures.0.long, c.requires.0)
-
 pub returns : goal.returns
 returns c =
     let a = c.args in

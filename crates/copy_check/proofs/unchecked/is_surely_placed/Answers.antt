@@ -2,59 +2,11 @@
 -- Assumes nothing.
 use mathlib.Core.Path.{sym, ◌∙◌}
 use Prim.Native.Nat.{◌≤◌}
-use native.Mathlib.Omega.{arith}
 use lib.ListN.{length}
 use Rattle.patterns.specs.Pattern.{rows_of}
 use Rattle.patterns.proofs.SizeLaws.{rows_least, rows_most, columns_most}
-use Rattle.copy_check.proofs.StampLaws.{unsure}
-use Rattle.copy_check.proofs.PlacedLaws.{surely_valid, surely_placed, same_placed}
+use Rattle.copy_check.proofs.PlacedLaws.{surely_valid, surely_placed}
 use Rattle.copy_check.proofs.unchecked.is_surely_placed.Goals as goal
-
-pub returns-then-is_same_pattern : goal.returns-then-is_same_pattern
-returns-then-is_same_pattern c =
-    -- how many rows there are
-    let sizes : (let a = c.args in
-    (1 ≤ rows_of a.starts.now) × (rows_of a.starts.now ≤ 4096) × (1 ≤ rows_of a.offsets.now) × (rows_of a.offsets.now ≤ 4096) × (length a.columns.now ≤ 65535)) = let a = c.args in (
-      rows_least (length a.starts.now) (length a.entries.now) c.requires.0,
-      rows_most (length a.starts.now) (length a.entries.now) c.requires.0,
-      rows_least (length a.offsets.now) (length a.columns.now) c.requires.1,
-      rows_most (length a.offsets.now) (length a.columns.now) c.requires.1,
-      columns_most (length a.offsets.now) (length a.columns.now) c.requires.1,
-    ) in
-    let a = c.args in
-    let z = sizes in
-    let same = c.is_same_pattern.ensures c.if-is_same_pattern.true in
-    λ _. same_placed a.starts.now a.entries.now a.offsets.now a.columns.now same.0 same.1 z.3 z.4 c.requires.3
-
-pub has_valid_starts-requires : goal.has_valid_starts-requires
-has_valid_starts-requires c =
-    -- how many rows there are
-    let sizes : (let a = c.args in
-    (1 ≤ rows_of a.starts.now) × (rows_of a.starts.now ≤ 4096) × (1 ≤ rows_of a.offsets.now) × (rows_of a.offsets.now ≤ 4096) × (length a.columns.now ≤ 65535)) = let a = c.args in (
-      rows_least (length a.starts.now) (length a.entries.now) c.requires.0,
-      rows_most (length a.starts.now) (length a.entries.now) c.requires.0,
-      rows_least (length a.offsets.now) (length a.columns.now) c.requires.1,
-      rows_most (length a.offsets.now) (length a.columns.now) c.requires.1,
-      columns_most (length a.offsets.now) (length a.columns.now) c.requires.1,
-    ) in
-    omega (arith, sizes)
-
-pub returns-then-not-has_valid_starts : goal.returns-then-not-has_valid_starts
-returns-then-not-has_valid_starts c = λ e. unsure e
-
-pub are_rows_placed-requires : goal.are_rows_placed-requires
-are_rows_placed-requires c =
-    -- how many rows there are
-    let sizes : (let a = c.args in
-    (1 ≤ rows_of a.starts.now) × (rows_of a.starts.now ≤ 4096) × (1 ≤ rows_of a.offsets.now) × (rows_of a.offsets.now ≤ 4096) × (length a.columns.now ≤ 65535)) = let a = c.args in (
-      rows_least (length a.starts.now) (length a.entries.now) c.requires.0,
-      rows_most (length a.starts.now) (length a.entries.now) c.requires.0,
-      rows_least (length a.offsets.now) (length a.columns.now) c.requires.1,
-      rows_most (length a.offsets.now) (length a.columns.now) c.requires.1,
-      columns_most (length a.offsets.now) (length a.columns.now) c.requires.1,
-    ) in
-    let z = sizes in
-    (omega (arith, z), z.1, omega (arith, z, c.requires.2), sym c.has_valid_starts.ensures ∙ c.if-not-has_valid_starts.false, c.requires.3)
 
 pub returns : goal.returns
 returns c =

@@ -2,15 +2,10 @@
 -- Assumes nothing.
 use mathlib.Core.Path.{◌≡◌}
 use mathlib.Core.Bool.{true}
-use Prim.Native.Nat.{◌-◌, ◌≤◌}
-use lib.ListN.{length}
 use Rattle.base.specs.All.{all_to}
 use Rattle.factors.specs.Copy.{has_place}
 use Rattle.places.specs.Places.{Marked}
 use Rattle.copy_check.proofs.unchecked.row_has_places.Given as goal
 
 abbrev pub invariant-loop-k : goal.invariant-loop-k
-invariant-loop-k l = (Marked l.row l.marks) × (l.k ≤ length l.from) × (all_to (has_place l.row l.from) l.k ≡ true)
-
-abbrev pub decreases-loop-k : goal.decreases-loop-k
-decreases-loop-k l = length l.from - l.k
+invariant-loop-k l = (Marked l.row l.marks) × (all_to (has_place l.row l.from) l.k ≡ true)

@@ -9,43 +9,43 @@ use Rattle.patterns.proofs.SizeLaws.{rows_least, rows_most, columns_most}
 use Rattle.copying.proofs.unchecked.check_lengths.Goals as goal
 
 pub returns-then-is_too_large : goal.returns-then-is_too_large
-returns-then-is_too_large c = rw (sym c.is_too_large.ensures ∙ c.if-is_too_large.true)
+returns-then-is_too_large g c = rw (sym c.is_too_large.ensures ∙ c.if-is_too_large.true)
 
 pub returns-then-is_too_large-2 : goal.returns-then-is_too_large-2
-returns-then-is_too_large-2 c =
+returns-then-is_too_large-2 g c =
     -- past the first two tests neither pattern is too large
     let sized : too_large c.args.starts c.args.entries ≡ false = sym c.is_too_large.ensures ∙ c.if-is_too_large.false in
     rw (sized, sym c.is_too_large-2.ensures ∙ c.if-is_too_large-2.true)
 
 pub overflow_sub-rows : goal.overflow_sub-rows
-overflow_sub-rows c =
+overflow_sub-rows g c =
     -- past the first two tests neither pattern is too large
     let sized : too_large c.args.starts c.args.entries ≡ false = sym c.is_too_large.ensures ∙ c.if-is_too_large.false in
     let a = c.args in
     omega (arith, rows_least a.starts a.entries sized)
 
 pub overflow_sub-factor_rows : goal.overflow_sub-factor_rows
-overflow_sub-factor_rows c =
+overflow_sub-factor_rows g c =
     let sized_factor : too_large c.args.offsets c.args.columns ≡ false = sym c.is_too_large-2.ensures ∙ c.if-is_too_large-2.false in
     let a = c.args in
     omega (arith, rows_least a.offsets a.columns sized_factor)
 
 pub returns-then-factor_rows-rows : goal.returns-then-factor_rows-rows
-returns-then-factor_rows-rows c =
+returns-then-factor_rows-rows g c =
     -- past the first two tests neither pattern is too large
     let sized : too_large c.args.starts c.args.entries ≡ false = sym c.is_too_large.ensures ∙ c.if-is_too_large.false in
     let sized_factor : too_large c.args.offsets c.args.columns ≡ false = sym c.is_too_large-2.ensures ∙ c.if-is_too_large-2.false in
     rw (sized, sized_factor, ne_eqb _ _ c.if-factor_rows-rows.true)
 
 pub is_wrong_matrix-requires : goal.is_wrong_matrix-requires
-is_wrong_matrix-requires c =
+is_wrong_matrix-requires g c =
     -- past the first two tests neither pattern is too large
     let sized : too_large c.args.starts c.args.entries ≡ false = sym c.is_too_large.ensures ∙ c.if-is_too_large.false in
     let small = sized in
-    (c.requires, rows_most c.args.starts c.args.entries small, columns_most c.args.starts c.args.entries small)
+    (rows_most c.args.starts c.args.entries small, columns_most c.args.starts c.args.entries small)
 
 pub returns-then-is_wrong_matrix : goal.returns-then-is_wrong_matrix
-returns-then-is_wrong_matrix c =
+returns-then-is_wrong_matrix g c =
     -- past the first two tests neither pattern is too large
     let sized : too_large c.args.starts c.args.entries ≡ false = sym c.is_too_large.ensures ∙ c.if-is_too_large.false in
     let sized_factor : too_large c.args.offsets c.args.columns ≡ false = sym c.is_too_large-2.ensures ∙ c.if-is_too_large-2.false in
@@ -57,13 +57,13 @@ returns-then-is_wrong_matrix c =
     )
 
 pub is_wrong_matrix-requires-2 : goal.is_wrong_matrix-requires-2
-is_wrong_matrix-requires-2 c =
+is_wrong_matrix-requires-2 g c =
     let sized_factor : too_large c.args.offsets c.args.columns ≡ false = sym c.is_too_large-2.ensures ∙ c.if-is_too_large-2.false in
     let small = sized_factor in
-    (c.requires, rows_most c.args.offsets c.args.columns small, columns_most c.args.offsets c.args.columns small)
+    (rows_most c.args.offsets c.args.columns small, columns_most c.args.offsets c.args.columns small)
 
 pub returns-then-is_wrong_matrix-2 : goal.returns-then-is_wrong_matrix-2
-returns-then-is_wrong_matrix-2 c =
+returns-then-is_wrong_matrix-2 g c =
     -- past the first two tests neither pattern is too large
     let sized : too_large c.args.starts c.args.entries ≡ false = sym c.is_too_large.ensures ∙ c.if-is_too_large.false in
     let sized_factor : too_large c.args.offsets c.args.columns ≡ false = sym c.is_too_large-2.ensures ∙ c.if-is_too_large-2.false in
@@ -76,7 +76,7 @@ returns-then-is_wrong_matrix-2 c =
     )
 
 pub returns-then-splits-factor_rows : goal.returns-then-splits-factor_rows
-returns-then-splits-factor_rows c =
+returns-then-splits-factor_rows g c =
     -- past the first two tests neither pattern is too large
     let sized : too_large c.args.starts c.args.entries ≡ false = sym c.is_too_large.ensures ∙ c.if-is_too_large.false in
     let sized_factor : too_large c.args.offsets c.args.columns ≡ false = sym c.is_too_large-2.ensures ∙ c.if-is_too_large-2.false in
@@ -90,7 +90,7 @@ returns-then-splits-factor_rows c =
     )
 
 pub returns : goal.returns
-returns c =
+returns g c =
     -- past the first two tests neither pattern is too large
     let sized : too_large c.args.starts c.args.entries ≡ false = sym c.is_too_large.ensures ∙ c.if-is_too_large.false in
     let sized_factor : too_large c.args.offsets c.args.columns ≡ false = sym c.is_too_large-2.ensures ∙ c.if-is_too_large-2.false in

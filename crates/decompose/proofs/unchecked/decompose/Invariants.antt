@@ -1,7 +1,7 @@
 -- `unchecked::decompose` meets its promise: after i turns, what the rows from i on do to what is left is what all rows do.
 -- Assumes nothing.
 use mathlib.Core.Path.{◌≡◌}
-use Prim.Native.Nat.{◌-◌, ◌≤◌}
+use Prim.Native.Nat.{◌-◌}
 use lib.ListN.{length}
 use lib.Ieee.{binary64}
 use Rattle.patterns.specs.Pattern.{rows_of}
@@ -10,10 +10,7 @@ use Rattle.reducing.specs.Lent.{pattern_of, factor_of}
 use Rattle.decompose.proofs.unchecked.decompose.Given as goal
 
 abbrev pub invariant-loop-i : goal.invariant-loop-i
-invariant-loop-i l =
-    (length l.diagonal ≡ length l.initial.diagonal) × (length l.values ≡ length l.initial.values) × (length l.marks ≡ 4096) × (l.i ≤ rows_of l.offsets)
-    × (decompose binary64 l.dim (pattern_of l.offsets l.columns l.splits) (factor_of l.initial.diagonal l.initial.values)
-    ≡ decompose_from binary64 l.dim (pattern_of l.offsets l.columns l.splits) l.i (rows_of l.offsets - l.i) (factor_of l.diagonal l.values))
-
-abbrev pub decreases-loop-i : goal.decreases-loop-i
-decreases-loop-i l = rows_of l.offsets - l.i
+invariant-loop-i g l =
+    (length l.diagonal ≡ length l.initial.diagonal) × (length l.values ≡ length l.initial.values) × (length l.marks ≡ 4096)
+    × (decompose binary64 g.S.Size.DIM (pattern_of l.offsets l.columns l.splits) (factor_of l.initial.diagonal l.initial.values)
+    ≡ decompose_from binary64 g.S.Size.DIM (pattern_of l.offsets l.columns l.splits) l.i (rows_of l.offsets - l.i) (factor_of l.diagonal l.values))

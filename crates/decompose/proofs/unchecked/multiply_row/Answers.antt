@@ -1,47 +1,42 @@
--- `unchecked::multiply_row` meets its promise: each N goes to its own function.
+-- `unchecked::multiply_row` meets its promise: after the entries below g those entries are multiplied.
 -- Assumes nothing.
-use mathlib.Core.Path.{◌≡◌}
-use Prim.Native.Nat.{◌+◌}
+use mathlib.Core.Path.{◌≡◌, refl, sym, ap, ◌∙◌}
+use Prim.Native.Nat.{ℕ, ◌*◌}
+use lib.ListN.{length}
+use Rattle.base.proofs.Sizes.{part_fits}
 use native.Mathlib.Omega.{arith}
-use Rattle.decompose.specs.Steps.{multiply_row}
-use Rattle.factor_check.proofs.FitLaws.{diagonal_within, row_within, split_between}
+use lib.Ieee.{binary64}
+use borrow.Author.Rules.{rules}
+use Rattle.base.proofs.Iterate.{iterate_none, iterate_more}
+use Rattle.factors.specs.Factor.{FactorValues, multiply_entry}
+use Rattle.decompose.proofs.Joined.{joined_multiply}
 use Rattle.decompose.proofs.unchecked.multiply_row.Goals as goal
 
-pub overflow_cast-first : goal.overflow_cast-first
-overflow_cast-first c = record { fits = omega (arith, c.shared_slice_known-5-1.given c.args.i) }
+pub loop-g-init : goal.loop-g-init
+loop-g-init g c = (refl, search rules, sym (iterate_none _ _ _ _ (search rules)))
 
-pub overflow_cast-end : goal.overflow_cast-end
-overflow_cast-end c = record { fits = omega (arith, c.shared_slice_known-6-1.given (c.args.i + 1)) }
+pub block_at-requires : goal.block_at-requires
+block_at-requires g c =
+    let n = g.S.Size.DIM in
+    part_fits (n * n) c.loop-g.g c.args.end (length c.loop-g.values) (search rules) (omega (arith, c.loop-g.invariant.0, c.requires.2))
 
-pub multiply_row_1-requires : goal.multiply_row_1-requires
-multiply_row_1-requires c =
-    let e : c.args.dim ≡ 1 = c.in-1.is in
-    (rw e at (diagonal_within c.requires.0 c.args.i c.requires.1), (split_between c.requires.0 c.args.i c.requires.1).1, rw e at (row_within c.requires.0 c.args.i c.requires.1))
+pub put_block-requires : goal.put_block-requires
+put_block-requires g c =
+    let n = g.S.Size.DIM in
+    part_fits (n * n) c.loop-g.g c.args.end (length c.loop-g.values) (search rules) (omega (arith, c.loop-g.invariant.0, c.requires.2))
 
-pub multiply_row_2-requires : goal.multiply_row_2-requires
-multiply_row_2-requires c =
-    let e : c.args.dim ≡ 2 = c.in-2.is in
-    (rw e at (diagonal_within c.requires.0 c.args.i c.requires.1), (split_between c.requires.0 c.args.i c.requires.1).1, rw e at (row_within c.requires.0 c.args.i c.requires.1))
+pub loop-g-preserved : goal.loop-g-preserved
+loop-g-preserved g c =
+    let a = c.args in
+    let l = c.loop-g in
+    let f : ℕ → FactorValues → FactorValues = multiply_entry binary64 g.S.Size.DIM a.i in (
+      c.put_block.auto.values ∙ l.invariant.0,
+      omega arith,
+      joined_multiply binary64 g.S.Size.DIM a.diagonal.now l.values a.i l.g _ _ _ _ c.block_at-pivot.ensures c.block_at.ensures c.product-all.ensures c.put_block.ensures
+          ∙ ap (f l.g) l.invariant.2 ∙ sym (iterate_more f _ l.g _ l.invariant.1),
+    )
 
-pub multiply_row_3-requires : goal.multiply_row_3-requires
-multiply_row_3-requires c =
-    let e : c.args.dim ≡ 3 = omega arith in
-    (rw e at (diagonal_within c.requires.0 c.args.i c.requires.1), (split_between c.requires.0 c.args.i c.requires.1).1, rw e at (row_within c.requires.0 c.args.i c.requires.1))
-
-pub returns-in-1 : goal.returns-in-1
-unfolding multiply_row
-returns-in-1 c =
-    let e : c.args.dim ≡ 1 = c.in-1.is in
-    rw e c.multiply_row_1.ensures
-
-pub returns-in-2 : goal.returns-in-2
-unfolding multiply_row
-returns-in-2 c =
-    let e : c.args.dim ≡ 2 = c.in-2.is in
-    rw e c.multiply_row_2.ensures
-
-pub returns-in_default : goal.returns-in_default
-unfolding multiply_row
-returns-in_default c =
-    let e : c.args.dim ≡ 3 = omega arith in
-    rw e c.multiply_row_3.ensures
+pub returns : goal.returns
+returns g c =
+    let e : c.loop-g.g ≡ c.args.end = omega arith in
+    rw e at c.loop-g.invariant.2

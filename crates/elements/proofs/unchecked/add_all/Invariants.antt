@@ -1,7 +1,6 @@
 -- `unchecked::add_all` meets its promise: after a turns the pairs of the first a row nodes are added.
 -- Assumes nothing.
 use mathlib.Core.Path.{◌≡◌}
-use Prim.Native.Nat.{◌-◌, ◌≤◌}
 use lib.Ieee.{binary64}
 use lib.ListN.{length}
 use Rattle.base.specs.Iterate.{iterate}
@@ -10,9 +9,6 @@ use Rattle.elements.specs.Fits.{kept_at}
 use Rattle.elements.proofs.unchecked.add_all.Given as goal
 
 abbrev pub invariant-loop-a : goal.invariant-loop-a
-invariant-loop-a l =
-    (length l.diagonal ≡ length l.initial.diagonal) × (length l.values ≡ length l.initial.values) × (l.a ≤ length l.rows)
-    × (◌≡◌ {A = Lists} (l.diagonal, l.values) (iterate (add_row binary64 l.dim l.rule l.rows l.cols l.element (kept_at l.places)) 0 l.a (l.initial.diagonal, l.initial.values)))
-
-abbrev pub decreases-loop-a : goal.decreases-loop-a
-decreases-loop-a l = length l.rows - l.a
+invariant-loop-a g l =
+    (length l.diagonal ≡ length l.initial.diagonal) × (length l.values ≡ length l.initial.values)
+    × (◌≡◌ {A = Lists} (l.diagonal, l.values) (iterate (add_row binary64 g.S.Size.DIM l.rule l.rows l.cols l.element (kept_at l.places)) 0 l.a (l.initial.diagonal, l.initial.values)))

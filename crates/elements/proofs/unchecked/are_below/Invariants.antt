@@ -2,14 +2,10 @@
 -- Assumes nothing.
 use mathlib.Core.Path.{◌≡◌}
 use mathlib.Core.Bool.{true}
-use Prim.Native.Nat.{◌-◌, ◌≤◌}
 use lib.Dec.{ltb}
-use lib.ListN.{length, get_or}
+use lib.ListN.{get_or}
 use Rattle.base.specs.All.{all_to}
 use Rattle.elements.proofs.unchecked.are_below.Given as goal
 
-abbrev pub invariant-loop-a : goal.invariant-loop-a
-invariant-loop-a l = (l.a ≤ length l.nodes) × (all_to (λ k. ltb (get_or l.nodes k 0) l.n) l.a ≡ true)
-
-abbrev pub decreases-loop-a : goal.decreases-loop-a
-decreases-loop-a l = length l.nodes - l.a
+abbrev pub invariant-loop-node : goal.invariant-loop-node
+invariant-loop-node l = (all_to (λ k. ltb (get_or l.nodes k 0) l.n) l.node-index ≡ true)

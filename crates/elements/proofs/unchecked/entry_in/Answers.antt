@@ -1,11 +1,9 @@
 -- `unchecked::entry_in` meets its promise: the row's part of the columns is searched, and a place in it is counted from the row's offset.
 -- Assumes nothing.
 use mathlib.Core.Path.{◌≡◌, sym, ◌∙◌}
-use mathlib.Core.Bool.{true}
 use Prim.Native.Nat.{◌+◌, ◌≤◌}
 use native.Mathlib.Omega.{arith}
 use lib.ListN.{length, get_or}
-use Rattle.answers.specs.Limits.{is_place}
 use Rattle.elements.specs.Pairs.{place_of}
 use Rattle.elements.proofs.EntryLaws.{looked_up, no_entry, some_entry, few_columns, ends, short, entry_below}
 use Rattle.elements.proofs.unchecked.entry_in.Goals as goal

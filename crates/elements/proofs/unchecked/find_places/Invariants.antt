@@ -2,8 +2,7 @@
 -- Assumes nothing.
 use mathlib.Core.Path.{◌≡◌}
 use mathlib.Core.Bool.{true}
-use Prim.Native.Nat.{◌-◌, ◌*◌, ◌≤◌}
-use lib.ListN.{length}
+use Prim.Native.Nat.{◌*◌}
 use Rattle.base.specs.All.{all_to}
 use Rattle.elements.specs.Pairs.{is_row_stored}
 use Rattle.elements.specs.Fits.{Placed}
@@ -11,7 +10,4 @@ use Rattle.elements.proofs.unchecked.find_places.Given as goal
 
 abbrev pub invariant-loop-a : goal.invariant-loop-a
 invariant-loop-a l =
-    (l.a ≤ length l.rows) × (all_to (is_row_stored l.rule l.rows l.cols l.offsets l.columns) l.a ≡ true) × (Placed l.rule l.rows l.cols l.offsets l.columns (8 * l.a) l.places)
-
-abbrev pub decreases-loop-a : goal.decreases-loop-a
-decreases-loop-a l = length l.rows - l.a
+    (all_to (is_row_stored l.rule l.rows l.cols l.offsets l.columns) l.a ≡ true) × (Placed l.rule l.rows l.cols l.offsets l.columns (8 * l.a) l.places)

@@ -2,8 +2,7 @@
 -- Assumes nothing.
 use mathlib.Core.Path.{◌≡◌}
 use mathlib.Core.Bool.{true}
-use Prim.Native.Nat.{◌+◌, ◌-◌, ◌*◌, ◌≤◌}
-use lib.ListN.{length}
+use Prim.Native.Nat.{◌+◌, ◌*◌}
 use Rattle.base.specs.All.{all_to}
 use Rattle.elements.specs.Pairs.{is_stored}
 use Rattle.elements.specs.Fits.{Placed}
@@ -11,7 +10,4 @@ use Rattle.elements.proofs.unchecked.find_row.Given as goal
 
 abbrev pub invariant-loop-b : goal.invariant-loop-b
 invariant-loop-b l =
-    (l.b ≤ length l.cols) × (all_to (is_stored l.rule l.rows l.cols l.offsets l.columns l.a) l.b ≡ true) × (Placed l.rule l.rows l.cols l.offsets l.columns (8 * l.a + l.b) l.places)
-
-abbrev pub decreases-loop-b : goal.decreases-loop-b
-decreases-loop-b l = length l.cols - l.b
+    (all_to (is_stored l.rule l.rows l.cols l.offsets l.columns l.a) l.b ≡ true) × (Placed l.rule l.rows l.cols l.offsets l.columns (8 * l.a + l.b) l.places)

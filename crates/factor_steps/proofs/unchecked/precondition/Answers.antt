@@ -5,7 +5,7 @@ use Rattle.factor_steps.proofs.TurnLaws.{preconditions}
 use Rattle.factor_steps.proofs.unchecked.precondition.Goals as goal
 
 pub returns : goal.returns
-returns c =
+returns g c =
     let a = c.args in
-    preconditions a.dim (factor_as a.offsets.now a.columns.now a.splits.now a.diagonal.now a.values.now) a.r.now a.q.now _ _ _
+    preconditions g.S.Size.DIM (factor_as a.offsets.now a.columns.now a.splits.now a.diagonal.now a.values.now) a.r.now a.q.now _ _ _
     c.copy.ensures c.solve_preconditioning_vec.ensures c.dot.ensures

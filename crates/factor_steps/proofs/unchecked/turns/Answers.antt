@@ -12,22 +12,22 @@ use borrow.Author.Rules.{rules}
 use Rattle.factor_steps.proofs.unchecked.turns.Goals as goal
 
 pub loop-k-init : goal.loop-k-init
-loop-k-init c = turning_start c.args.history.now c.requires.0 c.requires.1 c.requires.2 c.requires.3
+loop-k-init g c = turning_start c.args.history.now c.requires.0 c.requires.1 c.requires.2 c.requires.3
 
 pub returns-then-square_root-tolerance : goal.returns-then-square_root-tolerance
-returns-then-square_root-tolerance c =
+returns-then-square_root-tolerance g c =
     -- the run that the function makes
     let ran : Run = let a = c.args in
-    run (by_factor binary64 a.dim (matrix_of a.starts.now a.entries.now a.terms.now a.own.now)
+    run (by_factor binary64 g.S.Size.DIM (matrix_of a.starts.now a.entries.now a.terms.now a.own.now)
     (factor_as a.offsets.now a.columns.now a.splits.now a.diagonal.now a.values.now) a.tolerance a.inverse) a.limit
     (state_of a.r.now a.x.now a.q.now a.p.now a.first) in
     let l = c.loop-k in
     let a = c.args in
-    from_first a.dim (matrix_of a.starts.now a.entries.now a.terms.now a.own.now) a.norm ran a.history.now _ _ _ _ _ _
+    from_first g.S.Size.DIM (matrix_of a.starts.now a.entries.now a.terms.now a.own.now) a.norm ran a.history.now _ _ _ _ _ _
     (turning_stops l.invariant (omega (arith, c.loop-k-test.true)) _ _ _ _ _ _ c.advance-square.ensures c.square_root.ensures.0 c.square_root-in-loop-k.ensures.0 c.if-square_root-tolerance.true)
 
 pub loop-k-preserved : goal.loop-k-preserved
-loop-k-preserved c =
+loop-k-preserved g c =
     let l = c.loop-k in
     let kept = c.advance-square.auto in
     let solved = c.precondition-next in
@@ -36,29 +36,29 @@ loop-k-preserved c =
     c.if-square_root-tolerance.false kept.r kept.x (solved.auto.q ∙ kept.q) turned.auto.p
 
 pub shape_of-history-then-square_root-tolerance : goal.shape_of-history-then-square_root-tolerance
-shape_of-history-then-square_root-tolerance c = let l = c.loop-k in length-set l.history (l.k + 1) _ ∙ l.invariant.len_h ∙ length-set c.args.history.now 0 _
+shape_of-history-then-square_root-tolerance g c = let l = c.loop-k in length-set l.history (l.k + 1) _ ∙ l.invariant.len_h ∙ length-set c.args.history.now 0 _
 
 pub precondition-next-requires : goal.precondition-next-requires
-precondition-next-requires c =
+precondition-next-requires g c =
     let l = c.loop-k in
     let kept = c.advance-square.auto in
     (l.invariant.beside.fits, kept.q ∙ l.invariant.of_q, kept.r ∙ l.invariant.of_r)
 
 pub shape_of-history : goal.shape_of-history
-shape_of-history c =
+shape_of-history g c =
     let l = c.loop-k in
     let a = c.args in
     length-set l.history (a.limit + 1) _ ∙ l.invariant.len_h ∙ length-set a.history.now 0 _
 
 pub offset_bounds-history-limit : goal.offset_bounds-history-limit
-offset_bounds-history-limit c = record { fits = omega (arith, c.loop-k.invariant.few) }
+offset_bounds-history-limit g c = record { fits = omega (arith, c.loop-k.invariant.few) }
 
 pub returns : goal.returns
-returns c =
+returns g c =
     -- the run that the function makes
     let ran : Run = let a = c.args in
-    run (by_factor binary64 a.dim (matrix_of a.starts.now a.entries.now a.terms.now a.own.now)
+    run (by_factor binary64 g.S.Size.DIM (matrix_of a.starts.now a.entries.now a.terms.now a.own.now)
     (factor_as a.offsets.now a.columns.now a.splits.now a.diagonal.now a.values.now) a.tolerance a.inverse) a.limit
     (state_of a.r.now a.x.now a.q.now a.p.now a.first) in
     let a = c.args in
-    from_first a.dim (matrix_of a.starts.now a.entries.now a.terms.now a.own.now) a.norm ran a.history.now _ _ _ _ _ _ (turning_end c.loop-k.invariant (search rules) _ _ c.dot.ensures c.square_root-2.ensures.0)
+    from_first g.S.Size.DIM (matrix_of a.starts.now a.entries.now a.terms.now a.own.now) a.norm ran a.history.now _ _ _ _ _ _ (turning_end c.loop-k.invariant (search rules) _ _ c.dot.ensures c.square_root-2.ensures.0)

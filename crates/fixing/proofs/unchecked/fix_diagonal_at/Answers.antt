@@ -1,45 +1,24 @@
--- `unchecked::fix_diagonal_at` meets its promise: each N goes to its own function.
+-- `unchecked::fix_diagonal_at` meets its promise: where nothing is fixed all stays, and else the block is read, made anew and put back.
 -- Assumes nothing.
-use mathlib.Core.Path.{◌≡◌}
-use native.Mathlib.Omega.{arith}
-use lib.Ieee.{binary64}
-use Rattle.fixing.proofs.FixingLaws.{known_diagonal}
+use Rattle.std.proofs.Common.{ℕ, Float, sym, ◌∙◌, ◌/◌, ◌%◌, rules}
+use Rattle.std.specs.Float.{binary64}
+use Rattle.fixing.specs.Fixing.{is_fixed, diagonal_value}
+use Rattle.fixing.proofs.BlockLaws.{anew}
+use Rattle.fixing.proofs.FixingLaws.{diagonal_stays, joined_diagonal}
 use Rattle.fixing.proofs.unchecked.fix_diagonal_at.Goals as goal
 
-pub fixed_1-requires : goal.fixed_1-requires
-fixed_1-requires c = rw c.in-1.is at c.requires.2
-
-pub fix_diagonal_1-requires : goal.fix_diagonal_1-requires
-fix_diagonal_1-requires c = rw c.in-1.is at c.requires.1
-
-pub fixed_2-requires : goal.fixed_2-requires
-fixed_2-requires c = rw c.in-2.is at c.requires.2
-
-pub fix_diagonal_2-requires : goal.fix_diagonal_2-requires
-fix_diagonal_2-requires c = rw c.in-2.is at c.requires.1
-
-pub fixed_3-requires : goal.fixed_3-requires
-fixed_3-requires c =
-    let e : c.args.dim ≡ 3 = omega arith in
-    rw e at c.requires.2
-
-pub fix_diagonal_3-requires : goal.fix_diagonal_3-requires
-fix_diagonal_3-requires c =
-    let e : c.args.dim ≡ 3 = omega arith in
-    rw e at c.requires.1
-
-pub returns-in-1 : goal.returns-in-1
-returns-in-1 c =
+pub returns-then-not-is_any_fixed : goal.returns-then-not-is_any_fixed
+returns-then-not-is_any_fixed g c =
     let a = c.args in
-    rw c.in-1.is (known_diagonal binary64 1 a.flags.now a.val_dia a.i a.diagonal.now _ _ c.fixed_1.ensures c.fix_diagonal_1.ensures)
+    let n = g.S.Size.DIM in
+    diagonal_stays binary64 n a.val_dia (is_fixed n a.flags.now a.i) a.i a.diagonal.now c.requires.0 (sym c.is_any_fixed.ensures ∙ c.if-not-is_any_fixed.true)
 
-pub returns-in-2 : goal.returns-in-2
-returns-in-2 c =
+pub returns : goal.returns
+returns g c =
     let a = c.args in
-    rw c.in-2.is (known_diagonal binary64 2 a.flags.now a.val_dia a.i a.diagonal.now _ _ c.fixed_2.ensures c.fix_diagonal_2.ensures)
-
-pub returns-in_default : goal.returns-in_default
-returns-in_default c =
-    let a = c.args in
-    let e : c.args.dim ≡ 3 = omega arith in
-    rw e (known_diagonal binary64 3 a.flags.now a.val_dia a.i a.diagonal.now _ _ c.fixed_3.ensures c.fix_diagonal_3.ensures)
+    let n = g.S.Size.DIM in
+    let fixed = is_fixed n a.flags.now a.i in
+    let h : ℕ → ℕ → Float → Float = diagonal_value binary64 a.val_dia fixed in
+    let made = c.map-new.ensures (λ k x. h (k % n) (k / n) x) (λ k x y below gave. search rules) in
+    joined_diagonal binary64 n a.val_dia fixed a.i a.diagonal.now _ _ _ c.block_at.ensures
+    (rw g.met.S.Size.sizes.block_long at made ∙ anew n h _) c.put_block.ensures

@@ -15,20 +15,20 @@ use Rattle.fixing.proofs.FixingLaws.{joined_row}
 use Rattle.fixing.proofs.FitLaws.{row_fits}
 use Rattle.fixing.proofs.unchecked.fix_values.Goals as goal
 
-pub overflow_sub-n : goal.overflow_sub-n
-overflow_sub-n c = omega (arith, c.requires.0.some)
+pub overflow_sub-i-end : goal.overflow_sub-i-end
+overflow_sub-i-end g c = omega (arith, c.requires.0.some)
 
 pub loop-i-init : goal.loop-i-init
-loop-i-init c = (refl, search rules, sym (iterate_none _ 0 0 _ (search rules)))
+loop-i-init g c = (refl, sym (iterate_none _ 0 0 _ (search rules)))
 
 pub overflow_cast-from : goal.overflow_cast-from
-overflow_cast-from c = record { fits = omega (arith, c.shared_slice_known-in-loop-i-1.given c.loop-i.i) }
+overflow_cast-from g c = record { fits = omega (arith, c.shared_slice_known-in-loop-i-1.given c.loop-i.i) }
 
 pub overflow_cast-to : goal.overflow_cast-to
-overflow_cast-to c = record { fits = omega (arith, c.shared_slice_known-in-loop-i-2-1.given (c.loop-i.i + 1)) }
+overflow_cast-to g c = record { fits = omega (arith, c.shared_slice_known-in-loop-i-2-1.given (c.loop-i.i + 1)) }
 
 pub offset_bounds-columns-from : goal.offset_bounds-columns-from
-offset_bounds-columns-from c =
+offset_bounds-columns-from g c =
     -- the row's ends are in order and within the columns
     let ends : (let a = c.args in
     let i = c.loop-i.i in
@@ -36,7 +36,7 @@ offset_bounds-columns-from c =
     omega (arith, ends)
 
 pub slice_bounds-fix_entries-count : goal.slice_bounds-fix_entries-count
-slice_bounds-fix_entries-count c =
+slice_bounds-fix_entries-count g c =
     -- the row's ends are in order and within the columns
     let ends : (let a = c.args in
     let i = c.loop-i.i in
@@ -44,7 +44,7 @@ slice_bounds-fix_entries-count c =
     omega (arith, ends)
 
 pub slice_bounds-fix_entries-start : goal.slice_bounds-fix_entries-start
-slice_bounds-fix_entries-start c =
+slice_bounds-fix_entries-start g c =
     -- the row's ends are in order and within the columns
     let ends : (let a = c.args in
     let i = c.loop-i.i in
@@ -52,7 +52,7 @@ slice_bounds-fix_entries-start c =
     omega (arith, ends)
 
 pub slice_bounds-fix_entries-end : goal.slice_bounds-fix_entries-end
-slice_bounds-fix_entries-end c =
+slice_bounds-fix_entries-end g c =
     -- the row's ends are in order and within the columns
     let ends : (let a = c.args in
     let i = c.loop-i.i in
@@ -60,21 +60,20 @@ slice_bounds-fix_entries-end c =
     omega (arith, ends)
 
 pub fix_entries-requires : goal.fix_entries-requires
-fix_entries-requires c =
-    (c.requires.0.dim, row_fits c.requires.0 c.loop-i.i (search rules) _ _ refl refl _ _ c.loop-i.invariant.0 c.requires.1)
+fix_entries-requires g c =
+    (row_fits c.requires.0 c.loop-i.i (search rules) _ _ refl refl _ _ c.loop-i.invariant.0 c.requires.1)
 
 pub loop-i-preserved : goal.loop-i-preserved
-loop-i-preserved c =
+loop-i-preserved g c =
     let a = c.args in
-    let f : ℕ → List Float → List Float = fix_row binary64 a.dim a.flags.now a.offsets.now a.columns.now in (
+    let f : ℕ → List Float → List Float = fix_row binary64 g.S.Size.DIM a.flags.now a.offsets.now a.columns.now in (
       c.fix_entries.auto.values ∙ c.loop-i.invariant.0,
-      omega arith,
-      joined_row binary64 a.dim a.flags.now a.offsets.now a.columns.now c.loop-i.i _ _ _ _ refl refl c.fix_entries.ensures
-          ∙ ap (f c.loop-i.i) c.loop-i.invariant.2 ∙ sym (iterate_more f 0 c.loop-i.i _ (search rules)),
+      joined_row binary64 g.S.Size.DIM a.flags.now a.offsets.now a.columns.now c.loop-i.i _ _ _ _ refl refl c.fix_entries.ensures
+          ∙ ap (f c.loop-i.i) c.loop-i.invariant.1 ∙ sym (iterate_more f 0 c.loop-i.i _ (search rules)),
     )
 
 pub returns : goal.returns
 unfolding fix_values
-returns c =
+returns g c =
     let e : c.loop-i.i ≡ rows_of c.args.offsets.now = omega arith in
-    rw e at c.loop-i.invariant.2
+    rw e at c.loop-i.invariant.1

@@ -1,13 +1,9 @@
 -- `unchecked::count_up` meets its promise: after k turns the first k words are their place above the first.
 -- Assumes nothing.
 use mathlib.Core.Path.{◌≡◌}
-use Prim.Native.Nat.{◌+◌, ◌-◌, ◌≤◌}
-use lib.ListN.{length}
+use Prim.Native.Nat.{◌+◌}
 use Rattle.base.specs.Each.{each_to}
 use Rattle.full.proofs.unchecked.count_up.Given as goal
 
 abbrev pub invariant-loop-k : goal.invariant-loop-k
-invariant-loop-k l = (length l.part ≡ length l.initial.part) × (l.k ≤ length l.initial.part) × (l.part ≡ each_to (λ p _. l.first + p) l.k l.initial.part)
-
-abbrev pub decreases-loop-k : goal.decreases-loop-k
-decreases-loop-k l = length l.initial.part - l.k
+invariant-loop-k l = l.part ≡ each_to (λ p _. l.first + p) l.k l.initial.part

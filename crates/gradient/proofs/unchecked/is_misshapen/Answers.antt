@@ -5,22 +5,22 @@ use Rattle.advancing.proofs.CheckLaws.{as_factor}
 use Rattle.gradient.proofs.unchecked.is_misshapen.Goals as goal
 
 pub returns-then-is_wrong_factor : goal.returns-then-is_wrong_factor
-returns-then-is_wrong_factor c =
+returns-then-is_wrong_factor g c =
     let a = c.args in
-    rw (sym (as_factor a.dim a.rows a.columns a.diagonal a.values) ∙ sym c.is_wrong_factor.ensures ∙ c.if-is_wrong_factor.true)
+    rw (sym (as_factor g.S.Size.DIM a.rows a.columns a.diagonal a.values) ∙ sym c.is_wrong_factor.ensures ∙ c.if-is_wrong_factor.true)
 
 pub returns-then-are_wrong_vectors : goal.returns-then-are_wrong_vectors
-returns-then-are_wrong_vectors c =
+returns-then-are_wrong_vectors g c =
     let a = c.args in
     rw (
-      sym (as_factor a.dim a.rows a.columns a.diagonal a.values) ∙ sym c.is_wrong_factor.ensures ∙ c.if-is_wrong_factor.false,
+      sym (as_factor g.S.Size.DIM a.rows a.columns a.diagonal a.values) ∙ sym c.is_wrong_factor.ensures ∙ c.if-is_wrong_factor.false,
       sym c.are_wrong_vectors.ensures ∙ c.if-are_wrong_vectors.true,
     )
 
 pub returns : goal.returns
-returns c =
+returns g c =
     let a = c.args in
     rw (
-      sym (as_factor a.dim a.rows a.columns a.diagonal a.values) ∙ sym c.is_wrong_factor.ensures ∙ c.if-is_wrong_factor.false,
+      sym (as_factor g.S.Size.DIM a.rows a.columns a.diagonal a.values) ∙ sym c.is_wrong_factor.ensures ∙ c.if-is_wrong_factor.false,
       sym c.are_wrong_vectors.ensures ∙ c.if-are_wrong_vectors.false,
     )

@@ -1,14 +1,11 @@
 -- `unchecked::first_above` meets its promise: no column that was passed exceeds i.
 -- Assumes nothing.
 use mathlib.Core.Path.{◌≡◌}
-use Prim.Native.Nat.{◌+◌, ◌-◌, ◌≤◌}
+use Prim.Native.Nat.{◌+◌}
 use lib.Dec.{ltb}
-use lib.ListN.{length, drop}
+use lib.ListN.{drop}
 use Rattle.base.specs.First.{first_in}
 use Rattle.ilu0.proofs.unchecked.first_above.Given as goal
 
 abbrev pub invariant-loop-place : goal.invariant-loop-place
-invariant-loop-place l = (l.place ≤ length l.row) × (first_in (λ c. ltb l.i c) l.row ≡ l.place + first_in (λ c. ltb l.i c) (drop l.place l.row))
-
-abbrev pub decreases-loop-place : goal.decreases-loop-place
-decreases-loop-place l = length l.row - l.place
+invariant-loop-place l = first_in (λ c. ltb l.i c) l.row ≡ l.place + first_in (λ c. ltb l.i c) (drop l.place l.row)

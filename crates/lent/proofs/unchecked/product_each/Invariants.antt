@@ -1,16 +1,10 @@
--- `unchecked::product_each` meets its promise: after k turns the first k blocks are in their places.
+-- `unchecked::product_each` meets its promise: after k turns the first k are in their places.
 -- Assumes nothing.
-use mathlib.Core.Path.{◌≡◌}
-use Prim.Native.Nat.{◌-◌, ◌≤◌}
-use lib.ListN.{length}
-use lib.Ieee.{binary64}
+use Rattle.std.proofs.Common.{◌≡◌, length}
+use Rattle.std.specs.Float.{binary64}
 use Rattle.base.specs.Iterate.{iterate}
 use Rattle.lent.specs.Steps.{product_at}
 use Rattle.lent.proofs.unchecked.product_each.Given as goal
 
 abbrev pub invariant-loop-k : goal.invariant-loop-k
-invariant-loop-k l =
-    (length l.out ≡ length l.initial.out) × (l.k ≤ l.count) × (l.out ≡ iterate (λ i z. product_at binary64 l.dim l.a i l.b i i z) 0 l.k l.initial.out)
-
-abbrev pub decreases-loop-k : goal.decreases-loop-k
-decreases-loop-k l = l.count - l.k
+invariant-loop-k g l = (length l.out ≡ length l.initial.out) × (l.out ≡ iterate (λ i z. product_at binary64 g.S.Size.DIM l.a i l.b i i z) 0 l.k l.initial.out)

@@ -1,27 +1,23 @@
--- `unchecked::mult_row` meets its promise: each N goes to its own function.
+-- `unchecked::mult_row` meets its promise: the row of y is read, scaled, added to and put back. Where no value is a zero the quick sums are the right ones.
 -- Assumes nothing.
-use mathlib.Core.Path.{◌≡◌}
-use native.Mathlib.Omega.{arith}
+use Rattle.std.proofs.Common.{refl, sym, ◌∙◌}
+use Rattle.std.specs.Float.{binary64}
+use Rattle.matrix.specs.Product.{add_row}
+use Rattle.matrix.proofs.ProductLaws.{joined_row}
+use Rattle.matrix.proofs.BareLaws.{bare_row}
 use Rattle.matrix.proofs.unchecked.mult_row.Goals as goal
 
-pub mult_row_1-requires : goal.mult_row_1-requires
-mult_row_1-requires c = rw c.in-1.is at c.requires.1
+pub returns-then-has_no_zero : goal.returns-then-has_no_zero
+returns-then-has_no_zero g c =
+    let a = c.args in
+    let long = g.met.S.Size.sizes.row_long in
+    bare_row binary64 g.S.Size.DIM a.beta a.alpha a.row.now a.first a.values.now a.diagonal.now a.x.now a.i a.y.now _ _ _ _ _
+    c.vector_at.ensures (rw long at c.scale-scaled.ensures) c.add_bare_entries-entries.ensures c.add_bare-quick.ensures
+    (rw long at (sym c.has_no_zero.ensures ∙ c.if-has_no_zero.true)) c.put_row.ensures
 
-pub mult_row_2-requires : goal.mult_row_2-requires
-mult_row_2-requires c = rw c.in-2.is at c.requires.1
-
-pub mult_row_3-requires : goal.mult_row_3-requires
-mult_row_3-requires c =
-    let e : c.args.dim ≡ 3 = omega arith in
-    rw e at c.requires.1
-
-pub returns-in-1 : goal.returns-in-1
-returns-in-1 c = rw c.in-1.is c.mult_row_1.ensures
-
-pub returns-in-2 : goal.returns-in-2
-returns-in-2 c = rw c.in-2.is c.mult_row_2.ensures
-
-pub returns-in_default : goal.returns-in_default
-returns-in_default c =
-    let e : c.args.dim ≡ 3 = omega arith in
-    rw e c.mult_row_3.ensures
+pub returns : goal.returns
+unfolding add_row
+returns g c =
+    let a = c.args in
+    joined_row binary64 g.S.Size.DIM a.beta a.alpha a.row.now a.first a.values.now a.diagonal.now a.x.now a.i a.y.now _ _ _ _ _
+    c.vector_at.ensures (rw g.met.S.Size.sizes.row_long at c.scale-scaled.ensures) refl c.add_row-all.ensures c.put_row-2.ensures

@@ -16,23 +16,23 @@ use Rattle.matrix.proofs.ScaleLaws.{from_first, from_last}
 use Rattle.matrix.proofs.FitLaws.{ends_of, turn_fits, turn}
 use Rattle.matrix.proofs.unchecked.mult_vec.Goals as goal
 
-pub overflow_sub-n : goal.overflow_sub-n
-overflow_sub-n c = omega (arith, c.requires.0.some)
+pub overflow_sub-i-end : goal.overflow_sub-i-end
+overflow_sub-i-end g c = omega (arith, c.requires.0.some)
 
 pub loop-i-init : goal.loop-i-init
-loop-i-init c =
+loop-i-init g c =
     let a = c.args in
-    let none : a.dim * 0 ≡ 0 = omega arith in
-    (refl, search rules, rw none (from_first binary64 a.beta a.y.now) ∙ sym (iterate_none _ 0 0 _ (search rules)))
+    let none : g.S.Size.DIM * 0 ≡ 0 = omega arith in
+    (refl, rw none (from_first binary64 a.beta a.y.now) ∙ sym (iterate_none _ 0 0 _ (search rules)))
 
 pub overflow_cast-from : goal.overflow_cast-from
-overflow_cast-from c = record { fits = omega (arith, c.shared_slice_known-in-loop-i-1.given c.loop-i.i) }
+overflow_cast-from g c = record { fits = omega (arith, c.shared_slice_known-in-loop-i-1.given c.loop-i.i) }
 
 pub overflow_cast-to : goal.overflow_cast-to
-overflow_cast-to c = record { fits = omega (arith, c.shared_slice_known-in-loop-i-2-1.given (c.loop-i.i + 1)) }
+overflow_cast-to g c = record { fits = omega (arith, c.shared_slice_known-in-loop-i-2-1.given (c.loop-i.i + 1)) }
 
 pub offset_bounds-columns-from : goal.offset_bounds-columns-from
-offset_bounds-columns-from c =
+offset_bounds-columns-from g c =
     -- the row's ends are in order and within the columns
     let ends : (let a = c.args in
     let i = c.loop-i.i in
@@ -40,7 +40,7 @@ offset_bounds-columns-from c =
     omega (arith, ends)
 
 pub slice_bounds-mult_row-count : goal.slice_bounds-mult_row-count
-slice_bounds-mult_row-count c =
+slice_bounds-mult_row-count g c =
     -- the row's ends are in order and within the columns
     let ends : (let a = c.args in
     let i = c.loop-i.i in
@@ -48,7 +48,7 @@ slice_bounds-mult_row-count c =
     omega (arith, ends)
 
 pub slice_bounds-mult_row-start : goal.slice_bounds-mult_row-start
-slice_bounds-mult_row-start c =
+slice_bounds-mult_row-start g c =
     -- the row's ends are in order and within the columns
     let ends : (let a = c.args in
     let i = c.loop-i.i in
@@ -56,7 +56,7 @@ slice_bounds-mult_row-start c =
     omega (arith, ends)
 
 pub slice_bounds-mult_row-end : goal.slice_bounds-mult_row-end
-slice_bounds-mult_row-end c =
+slice_bounds-mult_row-end g c =
     -- the row's ends are in order and within the columns
     let ends : (let a = c.args in
     let i = c.loop-i.i in
@@ -64,27 +64,26 @@ slice_bounds-mult_row-end c =
     omega (arith, ends)
 
 pub mult_row-requires : goal.mult_row-requires
-mult_row-requires c =
-    (c.requires.0.dim, turn_fits c.requires.0 c.loop-i.i (search rules) _ _ refl refl _ _ c.requires.1 (c.loop-i.invariant.0 ∙ c.requires.2))
+mult_row-requires g c =
+    turn_fits c.requires.0 c.loop-i.i (search rules) _ _ refl refl _ _ c.requires.1 (c.loop-i.invariant.0 ∙ c.requires.2)
 
 pub loop-i-preserved : goal.loop-i-preserved
-loop-i-preserved c =
+loop-i-preserved g c =
     let a = c.args in
-    let f : ℕ → List Float → List Float = mult_row binary64 a.dim a.alpha a.offsets.now a.columns.now a.values.now a.diagonal.now a.x.now in (
+    let f : ℕ → List Float → List Float = mult_row binary64 g.S.Size.DIM a.alpha a.offsets.now a.columns.now a.values.now a.diagonal.now a.x.now in (
       c.mult_row.auto.y ∙ c.loop-i.invariant.0,
-      omega arith,
-      turn binary64 a.dim a.beta a.alpha a.offsets.now a.columns.now a.values.now a.diagonal.now a.x.now c.loop-i.i _ _ _ _ refl refl
-          (part_fits a.dim c.loop-i.i (rows_of a.offsets.now) (length c.loop-i.y) (search rules) (omega (arith, c.loop-i.invariant.0, c.requires.2)))
+      turn binary64 g.S.Size.DIM a.beta a.alpha a.offsets.now a.columns.now a.values.now a.diagonal.now a.x.now c.loop-i.i _ _ _ _ refl refl
+          (part_fits g.S.Size.DIM c.loop-i.i (rows_of a.offsets.now) (length c.loop-i.y) (search rules) (omega (arith, c.loop-i.invariant.0, c.requires.2)))
           c.mult_row.ensures
-          ∙ ap (f c.loop-i.i) c.loop-i.invariant.2 ∙ sym (iterate_more f 0 c.loop-i.i _ (search rules)),
+          ∙ ap (f c.loop-i.i) c.loop-i.invariant.1 ∙ sym (iterate_more f 0 c.loop-i.i _ (search rules)),
     )
 
 pub returns : goal.returns
 unfolding mult_vec
-returns c =
+returns g c =
     let a = c.args in
     let rows = rows_of a.offsets.now in
     let e : c.loop-i.i ≡ rows = omega arith in
-    let all : scaled_from binary64 a.beta (a.dim * rows) c.loop-i.y ≡ c.loop-i.y =
-    from_last binary64 a.beta (a.dim * rows) c.loop-i.y (omega (arith, c.loop-i.invariant.0, c.requires.2)) in
-    sym all ∙ rw e at c.loop-i.invariant.2
+    let all : scaled_from binary64 a.beta (g.S.Size.DIM * rows) c.loop-i.y ≡ c.loop-i.y =
+    from_last binary64 a.beta (g.S.Size.DIM * rows) c.loop-i.y (omega (arith, c.loop-i.invariant.0, c.requires.2)) in
+    sym all ∙ rw e at c.loop-i.invariant.1

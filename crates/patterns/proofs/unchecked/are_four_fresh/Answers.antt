@@ -6,15 +6,6 @@ use native.Mathlib.Omega.{arith}
 use Rattle.patterns.proofs.MarkLaws.{marked_stops, marked_on, marked_to}
 use Rattle.patterns.proofs.unchecked.are_four_fresh.Goals as goal
 
-pub returns-then-not-is_next_fresh : goal.returns-then-not-is_next_fresh
-returns-then-not-is_next_fresh c = marked_stops c.is_next_fresh.ensures c.if-not-is_next_fresh.true
-
-pub returns-then-not-is_next_fresh-2 : goal.returns-then-not-is_next_fresh-2
-returns-then-not-is_next_fresh-2 c =
-    marked_stops
-    (marked_on c.is_next_fresh.ensures c.if-not-is_next_fresh.false c.is_next_fresh-2.ensures refl)
-    c.if-not-is_next_fresh-2.true
-
 pub returns-then-not-is_next_fresh-3 : goal.returns-then-not-is_next_fresh-3
 returns-then-not-is_next_fresh-3 c =
     let a = c.args in

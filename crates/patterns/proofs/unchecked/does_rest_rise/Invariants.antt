@@ -8,7 +8,4 @@ use Rattle.patterns.specs.Steps.{rises_to}
 use Rattle.patterns.proofs.unchecked.does_rest_rise.Given as goal
 
 abbrev pub invariant-loop-k : goal.invariant-loop-k
-invariant-loop-k l = (l.k ≤ length l.row - 1) × (rises_to l.row l.k ≡ true)
-
-abbrev pub decreases-loop-k : goal.decreases-loop-k
-decreases-loop-k l = length l.row - l.k
+invariant-loop-k l = (l.k - 1 ≤ length l.row - 1) × (rises_to l.row (l.k - 1) ≡ true)

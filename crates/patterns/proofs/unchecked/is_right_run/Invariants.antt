@@ -2,7 +2,7 @@
 -- Assumes nothing.
 use mathlib.Core.Path.{◌≡◌}
 use mathlib.Core.Bool.{true}
-use Prim.Native.Nat.{◌+◌, ◌-◌, ◌≤◌}
+use Prim.Native.Nat.{◌+◌, ◌-◌}
 use lib.ListN.{get_or}
 use Rattle.patterns.specs.Steps.{rows_right}
 use Rattle.patterns.specs.Marks.{Below}
@@ -10,7 +10,4 @@ use Rattle.patterns.proofs.unchecked.is_right_run.Given as goal
 
 abbrev pub invariant-loop-i : goal.invariant-loop-i
 invariant-loop-i l =
-    (l.first ≤ l.i) × (l.i ≤ l.end) × (l.stamp ≡ l.i - l.first) × Below (l.stamp + 1) l.marks × (rows_right l.refused l.offsets l.columns l.i ≡ true) × (l.from ≡ get_or l.offsets l.i 0)
-
-abbrev pub decreases-loop-i : goal.decreases-loop-i
-decreases-loop-i l = l.end - l.i
+    (l.stamp ≡ l.i - l.first) × Below (l.stamp + 1) l.marks × (rows_right l.refused l.offsets l.columns l.i ≡ true) × (l.from ≡ get_or l.offsets l.i 0)

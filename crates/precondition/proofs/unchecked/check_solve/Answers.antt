@@ -1,5 +1,7 @@
 -- `unchecked::check_solve` meets its promise: refused by its lengths, or what the factor's rows answer.
 -- Assumes nothing.
+use Rattle.std.proofs.Common.{rules}
+use Rattle.answers.proofs.SameAnswer.{passed_up}
 use mathlib.Core.Path.{◌≡◌, refl, sym, ◌∙◌}
 use mathlib.Core.List.{List}
 use lib.ListN.{length}
@@ -11,30 +13,30 @@ use Rattle.precondition.specs.Checks.{solve_lengths}
 use Rattle.precondition.proofs.CheckLaws.{sized, splits_are, by_rules}
 use Rattle.precondition.proofs.unchecked.check_solve.Goals as goal
 
-pub returns-then-number-ne0 : goal.returns-then-number-ne0
-returns-then-number-ne0 c =
+pub returns-in_err-check_lengths : goal.returns-in_err-check_lengths
+returns-in_err-check_lengths g c =
+    let on = passed_up (search rules) c.in_err-check_lengths.ensures in
     -- the checks by the lengths, and those of the rows
-    let lengths : List Check = let a = c.args in solve_lengths a.dim (length a.offsets.now) (length a.columns.now) (length a.splits.now) a.diagonal a.values a.vec in
+    let lengths : List Check = let a = c.args in solve_lengths g.S.Size.DIM (length a.offsets.now) (length a.columns.now) (length a.splits.now) a.diagonal a.values a.vec in
     let rules : List Check = let a = c.args in row_checks a.offsets.now a.columns.now a.splits.now in
-    let call = c.check_lengths-answer in
-    call.ensures ∙ sym (refused_earlier lengths rules (λ z. c.if-number-ne0.true (c.number.ensures ∙ call.ensures ∙ z)))
+    on.number ∙ sym (refused_earlier lengths rules (λ z. on.counts (on.number ∙ z)))
 
 pub check_rows-requires : goal.check_rows-requires
-check_rows-requires c =
+check_rows-requires g c =
     -- the checks by the lengths, and those of the rows
-    let lengths : List Check = let a = c.args in solve_lengths a.dim (length a.offsets.now) (length a.columns.now) (length a.splits.now) a.diagonal a.values a.vec in
+    let lengths : List Check = let a = c.args in solve_lengths g.S.Size.DIM (length a.offsets.now) (length a.columns.now) (length a.splits.now) a.diagonal a.values a.vec in
     -- past the first test no length is wrong
-    let passed : first_of lengths ≡ 0 = sym c.check_lengths-answer.ensures ∙ sym c.number.ensures ∙ c.if-number-ne0.false in
+    let passed : first_of lengths ≡ 0 = sym c.in_ok-check_lengths.ensures in
     let a = c.args in (
-      sized a.dim (length a.offsets.now) (length a.columns.now) (length a.splits.now) a.diagonal a.values a.vec passed,
-      splits_are a.dim (length a.offsets.now) (length a.columns.now) (length a.splits.now) a.diagonal a.values a.vec passed,
+      sized g.S.Size.DIM (length a.offsets.now) (length a.columns.now) (length a.splits.now) a.diagonal a.values a.vec passed,
+      splits_are g.S.Size.DIM (length a.offsets.now) (length a.columns.now) (length a.splits.now) a.diagonal a.values a.vec passed,
     )
 
 pub returns : goal.returns
-returns c =
+returns g c =
     -- the checks by the lengths, and those of the rows
-    let lengths : List Check = let a = c.args in solve_lengths a.dim (length a.offsets.now) (length a.columns.now) (length a.splits.now) a.diagonal a.values a.vec in
+    let lengths : List Check = let a = c.args in solve_lengths g.S.Size.DIM (length a.offsets.now) (length a.columns.now) (length a.splits.now) a.diagonal a.values a.vec in
     let rules : List Check = let a = c.args in row_checks a.offsets.now a.columns.now a.splits.now in
     -- past the first test no length is wrong
-    let passed : first_of lengths ≡ 0 = sym c.check_lengths-answer.ensures ∙ sym c.number.ensures ∙ c.if-number-ne0.false in
+    let passed : first_of lengths ≡ 0 = sym c.in_ok-check_lengths.ensures in
     c.check_rows.ensures ∙ sym (by_rules lengths rules refl passed)

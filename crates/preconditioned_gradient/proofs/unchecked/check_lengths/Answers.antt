@@ -9,39 +9,38 @@ use Rattle.advancing.proofs.CheckLaws.{limit_most}
 use Rattle.preconditioned_gradient.proofs.unchecked.check_lengths.Goals as goal
 
 pub returns-then-is_too_large : goal.returns-then-is_too_large
-returns-then-is_too_large c = rw (sym c.is_too_large.ensures ∙ c.if-is_too_large.true)
+returns-then-is_too_large g c = rw (sym c.is_too_large.ensures ∙ c.if-is_too_large.true)
 
 pub returns-then-is_too_large-2 : goal.returns-then-is_too_large-2
-returns-then-is_too_large-2 c =
+returns-then-is_too_large-2 g c =
     -- past the first two tests neither pattern is too large
     let small : too_large c.args.starts c.args.entries ≡ false = sym c.is_too_large.ensures ∙ c.if-is_too_large.false in
     rw (small, sym c.is_too_large-2.ensures ∙ c.if-is_too_large-2.true)
 
 pub returns-then-out_of_range : goal.returns-then-out_of_range
-returns-then-out_of_range c =
+returns-then-out_of_range g c =
     -- past the first two tests neither pattern is too large
     let small : too_large c.args.starts c.args.entries ≡ false = sym c.is_too_large.ensures ∙ c.if-is_too_large.false in
     let small-factor : too_large c.args.offsets c.args.columns ≡ false = sym c.is_too_large-2.ensures ∙ c.if-is_too_large-2.false in
     rw (small, small-factor, sym c.out_of_range.ensures ∙ c.if-out_of_range.true)
 
 pub overflow_sub-rows : goal.overflow_sub-rows
-overflow_sub-rows c =
+overflow_sub-rows g c =
     -- past the first two tests neither pattern is too large
     let small : too_large c.args.starts c.args.entries ≡ false = sym c.is_too_large.ensures ∙ c.if-is_too_large.false in
     let a = c.args in omega (arith, rows_least a.starts a.entries small)
 
 pub overflow_sub-factor_rows : goal.overflow_sub-factor_rows
-overflow_sub-factor_rows c =
+overflow_sub-factor_rows g c =
     let small-factor : too_large c.args.offsets c.args.columns ≡ false = sym c.is_too_large-2.ensures ∙ c.if-is_too_large-2.false in
     let a = c.args in omega (arith, rows_least a.offsets a.columns small-factor)
 
 pub is_misshapen-requires : goal.is_misshapen-requires
-is_misshapen-requires c =
+is_misshapen-requires g c =
     -- past the first two tests neither pattern is too large
     let small : too_large c.args.starts c.args.entries ≡ false = sym c.is_too_large.ensures ∙ c.if-is_too_large.false in
     let small-factor : too_large c.args.offsets c.args.columns ≡ false = sym c.is_too_large-2.ensures ∙ c.if-is_too_large-2.false in
     let a = c.args in (
-      c.requires,
       limit_most a.limit (sym c.out_of_range.ensures ∙ c.if-out_of_range.false),
       rows_most a.starts a.entries small,
       columns_most a.starts a.entries small,
@@ -50,14 +49,14 @@ is_misshapen-requires c =
     )
 
 pub returns-then-is_misshapen : goal.returns-then-is_misshapen
-returns-then-is_misshapen c =
+returns-then-is_misshapen g c =
     -- past the first two tests neither pattern is too large
     let small : too_large c.args.starts c.args.entries ≡ false = sym c.is_too_large.ensures ∙ c.if-is_too_large.false in
     let small-factor : too_large c.args.offsets c.args.columns ≡ false = sym c.is_too_large-2.ensures ∙ c.if-is_too_large-2.false in
     rw (small, small-factor, sym c.out_of_range.ensures ∙ c.if-out_of_range.false, sym c.is_misshapen.ensures ∙ c.if-is_misshapen.true)
 
 pub returns : goal.returns
-returns c =
+returns g c =
     -- past the first two tests neither pattern is too large
     let small : too_large c.args.starts c.args.entries ≡ false = sym c.is_too_large.ensures ∙ c.if-is_too_large.false in
     let small-factor : too_large c.args.offsets c.args.columns ≡ false = sym c.is_too_large-2.ensures ∙ c.if-is_too_large-2.false in

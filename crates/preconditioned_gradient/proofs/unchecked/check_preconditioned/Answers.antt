@@ -1,5 +1,7 @@
 -- `unchecked::check_preconditioned` meets its promise: refused by a length, or as the patterns say.
 -- Assumes nothing.
+use Rattle.std.proofs.Common.{rules}
+use Rattle.answers.proofs.SameAnswer.{passed_up}
 use mathlib.Core.Path.{◌≡◌, refl, sym, ◌∙◌}
 use mathlib.Core.List.{List}
 use lib.ListN.{length}
@@ -11,33 +13,34 @@ use Rattle.preconditioned_gradient.proofs.CheckLaws.{lengths_pass}
 use borrow.Author.Rules.{rules}
 use Rattle.preconditioned_gradient.proofs.unchecked.check_preconditioned.Goals as goal
 
-pub returns-then-number-ne0 : goal.returns-then-number-ne0
-returns-then-number-ne0 c =
+pub returns-in_err-check_lengths : goal.returns-in_err-check_lengths
+returns-in_err-check_lengths g c =
+    let on = passed_up (search rules) c.in_err-check_lengths.ensures in
     -- the two lists of checks
     let lengths : List Check = let a = c.args in
-    preconditioned_lengths a.dim a.limit (length a.starts.now) (length a.entries.now) a.a_values a.a_diagonal (length a.offsets.now) (length a.columns.now) (length a.splits.now) a.diagonal a.values a.r a.x a.pr a.p a.history in
+    preconditioned_lengths g.S.Size.DIM a.limit (length a.starts.now) (length a.entries.now) a.a_values a.a_diagonal (length a.offsets.now) (length a.columns.now) (length a.splits.now) a.diagonal a.values a.r a.x a.pr a.p a.history in
     let rules : List Check = let a = c.args in
     preconditioned_rules a.starts.now a.entries.now a.offsets.now a.columns.now a.splits.now in
-    c.check_lengths-answer.ensures ∙ sym (refused_earlier lengths rules (λ z. c.if-number-ne0.true (c.number.ensures ∙ c.check_lengths-answer.ensures ∙ z)))
+    on.number ∙ sym (refused_earlier lengths rules (λ z. on.counts (on.number ∙ z)))
 
 pub check_rules-requires : goal.check_rules-requires
-check_rules-requires c =
+check_rules-requires g c =
     -- the two lists of checks
     let lengths : List Check = let a = c.args in
-    preconditioned_lengths a.dim a.limit (length a.starts.now) (length a.entries.now) a.a_values a.a_diagonal (length a.offsets.now) (length a.columns.now) (length a.splits.now) a.diagonal a.values a.r a.x a.pr a.p a.history in
+    preconditioned_lengths g.S.Size.DIM a.limit (length a.starts.now) (length a.entries.now) a.a_values a.a_diagonal (length a.offsets.now) (length a.columns.now) (length a.splits.now) a.diagonal a.values a.r a.x a.pr a.p a.history in
     -- past the test no length is wrong
-    let passed : first_of lengths ≡ 0 = sym c.check_lengths-answer.ensures ∙ sym c.number.ensures ∙ c.if-number-ne0.false in
+    let passed : first_of lengths ≡ 0 = sym c.in_ok-check_lengths.ensures in
     let a = c.args in
-    let shape = lengths_pass a.dim a.limit (length a.starts.now) (length a.entries.now) a.a_values a.a_diagonal (length a.offsets.now) (length a.columns.now) (length a.splits.now) a.diagonal a.values a.r a.x a.pr a.p a.history passed in
-    (shape.sized, shape.sized_factor, splits_are a.dim _ (length a.columns.now) (length a.splits.now) a.diagonal a.values shape.of_factor)
+    let shape = lengths_pass g.S.Size.DIM a.limit (length a.starts.now) (length a.entries.now) a.a_values a.a_diagonal (length a.offsets.now) (length a.columns.now) (length a.splits.now) a.diagonal a.values a.r a.x a.pr a.p a.history passed in
+    (shape.sized, shape.sized_factor, splits_are g.S.Size.DIM _ (length a.columns.now) (length a.splits.now) a.diagonal a.values shape.of_factor)
 
 pub returns : goal.returns
-returns c =
+returns g c =
     -- the two lists of checks
     let lengths : List Check = let a = c.args in
-    preconditioned_lengths a.dim a.limit (length a.starts.now) (length a.entries.now) a.a_values a.a_diagonal (length a.offsets.now) (length a.columns.now) (length a.splits.now) a.diagonal a.values a.r a.x a.pr a.p a.history in
+    preconditioned_lengths g.S.Size.DIM a.limit (length a.starts.now) (length a.entries.now) a.a_values a.a_diagonal (length a.offsets.now) (length a.columns.now) (length a.splits.now) a.diagonal a.values a.r a.x a.pr a.p a.history in
     let rules : List Check = let a = c.args in
     preconditioned_rules a.starts.now a.entries.now a.offsets.now a.columns.now a.splits.now in
     -- past the test no length is wrong
-    let passed : first_of lengths ≡ 0 = sym c.check_lengths-answer.ensures ∙ sym c.number.ensures ∙ c.if-number-ne0.false in
+    let passed : first_of lengths ≡ 0 = sym c.in_ok-check_lengths.ensures in
     c.check_rules.ensures ∙ sym (left_to_later lengths rules (none_of_zero lengths refl passed))

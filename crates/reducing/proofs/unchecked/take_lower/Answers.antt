@@ -1,54 +1,52 @@
--- `unchecked::take_lower` meets its promise: each N goes to its own function, with the row's split.
+-- `unchecked::take_lower` meets its promise: after the entries below e their pivots are taken.
 -- Assumes nothing.
-use mathlib.Core.Path.{◌≡◌}
-use Prim.Native.Nat.{◌≤◌}
+use mathlib.Core.Path.{◌≡◌, refl, sym, ap, ◌∙◌}
+use Prim.Native.Nat.{ℕ, ◌<◌}
 use native.Mathlib.Omega.{arith}
-use lib.ListN.{length, get_or}
-use Rattle.factors.specs.Factor.{reduce_row}
-use Rattle.factor_check.proofs.FitLaws.{split_ends}
+use lib.ListN.{length}
+use lib.Ieee.{binary64}
+use borrow.Author.Rules.{rules}
+use Rattle.base.proofs.Iterate.{iterate_none, iterate_more}
+use Rattle.factors.specs.Factor.{FactorValues, take_pivot}
+use Rattle.reducing.specs.Lent.{pattern_of}
+use Rattle.reducing.proofs.FitLaws.{has_split, has_end, upper_ends}
+use Rattle.reducing.proofs.Joined.{pivot_taken}
 use Rattle.reducing.proofs.unchecked.take_lower.Goals as goal
 
-pub overflow_cast-end : goal.overflow_cast-end
-overflow_cast-end c = record { fits = omega (arith, c.shared_slice_known-5-1.given c.args.i) }
+pub loop-e-init : goal.loop-e-init
+loop-e-init g c = (refl, refl, search rules, sym (iterate_none _ _ _ _ (search rules)))
 
-pub take_lower_1-requires : goal.take_lower_1-requires
-take_lower_1-requires c =
-    -- the row's lower entries are within the columns
-    let ends : (c.args.from ≤ get_or c.args.splits.now c.args.i 0) × (get_or c.args.splits.now c.args.i 0 ≤ length c.args.columns.now) = let all = split_ends c.requires.0 c.args.i c.requires.3 in
-    (omega (arith, all.0, c.requires.2.from_is), omega (arith, all.1, all.2)) in
-    let e : c.args.dim ≡ 1 = c.in-1.is in
-    (rw e at c.requires.0, rw e at c.requires.1, c.requires.2, ends.0, ends.1)
+pub upper_first-first-requires : goal.upper_first-first-requires
+upper_first-first-requires g c =
+    -- entry e is one of the columns
+    let within : c.loop-e.e < length c.args.columns.now = omega (arith, c.requires.4) in
+    (within, has_split c.requires.0 _ within)
 
-pub take_lower_2-requires : goal.take_lower_2-requires
-take_lower_2-requires c =
-    -- the row's lower entries are within the columns
-    let ends : (c.args.from ≤ get_or c.args.splits.now c.args.i 0) × (get_or c.args.splits.now c.args.i 0 ≤ length c.args.columns.now) = let all = split_ends c.requires.0 c.args.i c.requires.3 in
-    (omega (arith, all.0, c.requires.2.from_is), omega (arith, all.1, all.2)) in
-    let e : c.args.dim ≡ 2 = c.in-2.is in
-    (rw e at c.requires.0, rw e at c.requires.1, c.requires.2, ends.0, ends.1)
+pub upper_end-last-requires : goal.upper_end-last-requires
+upper_end-last-requires g c =
+    -- entry e is one of the columns
+    let within : c.loop-e.e < length c.args.columns.now = omega (arith, c.requires.4) in
+    (within, has_end c.requires.0 _ within)
 
-pub take_lower_3-requires : goal.take_lower_3-requires
-take_lower_3-requires c =
-    -- the row's lower entries are within the columns
-    let ends : (c.args.from ≤ get_or c.args.splits.now c.args.i 0) × (get_or c.args.splits.now c.args.i 0 ≤ length c.args.columns.now) = let all = split_ends c.requires.0 c.args.i c.requires.3 in
-    (omega (arith, all.0, c.requires.2.from_is), omega (arith, all.1, all.2)) in
-    let e : c.args.dim ≡ 3 = omega arith in
-    (rw e at c.requires.0, rw e at c.requires.1, c.requires.2, ends.0, ends.1)
+pub take_pivot-requires : goal.take_pivot-requires
+take_pivot-requires g c =
+    -- entry e is one of the columns
+    let within : c.loop-e.e < length c.args.columns.now = omega (arith, c.requires.4) in
+    let l = c.loop-e in
+    let below = within in
+    let ends = upper_ends c.requires.0 l.e below _ _ c.upper_first-first.ensures c.upper_end-last.ensures in
+    (rw (l.invariant.0, l.invariant.1) c.requires.1, below, ends.0, ends.1)
 
-pub returns-in-1 : goal.returns-in-1
-unfolding reduce_row
-returns-in-1 c =
-    let e : c.args.dim ≡ 1 = c.in-1.is in
-    rw (e, ← c.requires.2.from_is) c.take_lower_1.ensures
+pub loop-e-preserved : goal.loop-e-preserved
+loop-e-preserved g c =
+    let a = c.args in
+    let l = c.loop-e in
+    let call = c.take_pivot in
+    let f : ℕ → FactorValues → FactorValues = take_pivot binary64 g.S.Size.DIM (pattern_of a.offsets.now a.columns.now a.splits.now) a.i in
+    let turn = pivot_taken binary64 g.S.Size.DIM a.offsets.now a.columns.now a.splits.now a.i l.e _ _ c.upper_first-first.ensures c.upper_end-last.ensures _ _ (call.ensures a.offsets.now a.splits.now c.requires.2) in
+    (call.auto.diagonal ∙ l.invariant.0, call.auto.values ∙ l.invariant.1, omega (arith, l.invariant.2), turn ∙ ap (f l.e) l.invariant.3 ∙ sym (iterate_more f _ l.e _ l.invariant.2))
 
-pub returns-in-2 : goal.returns-in-2
-unfolding reduce_row
-returns-in-2 c =
-    let e : c.args.dim ≡ 2 = c.in-2.is in
-    rw (e, ← c.requires.2.from_is) c.take_lower_2.ensures
-
-pub returns-in_default : goal.returns-in_default
-unfolding reduce_row
-returns-in_default c =
-    let e : c.args.dim ≡ 3 = omega arith in
-    rw (e, ← c.requires.2.from_is) c.take_lower_3.ensures
+pub returns : goal.returns
+returns g c =
+    let e : c.loop-e.e ≡ c.args.end = omega arith in
+    rw e at c.loop-e.invariant.3

@@ -2,15 +2,16 @@
 -- Assumes nothing.
 use Rattle.std.proofs.Common.{◌∙◌}
 use Rattle.roots.proofs.CheckerLaws.{subnormal_fails, infinite_fails, too_high_fails, passes}
+use Rattle.roots.proofs.checker.is_nearest.Goals.{then-r-lt-LEADING-via-then-r-lt-LEADING, then-r-lt-LEADING-via-else-r-lt-LEADING+then-r}
 use Rattle.roots.proofs.checker.is_nearest.Goals as goal
 
 pub returns-then-r-lt-LEADING : goal.returns-then-r-lt-LEADING
-returns-then-r-lt-LEADING c = subnormal_fails c.args.x c.args.r c.if-r-lt-LEADING.true
-
-pub returns-then-r : goal.returns-then-r
-returns-then-r c =
+returns-then-r-lt-LEADING c =
     let a = c.args in
-    infinite_fails a.x a.r c.if-r-lt-LEADING.false c.if-r.true
+    elim c.then-r-lt-LEADING.branch [
+      | then-r-lt-LEADING-via-then-r-lt-LEADING w ↦ subnormal_fails a.x a.r w.if-r-lt-LEADING.true
+      | then-r-lt-LEADING-via-else-r-lt-LEADING+then-r w ↦ infinite_fails a.x a.r w.if-r-lt-LEADING.false w.if-r.true
+    ]
 
 pub returns-then-down-up : goal.returns-then-down-up
 returns-then-down-up c =

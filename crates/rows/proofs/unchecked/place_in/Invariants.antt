@@ -2,13 +2,8 @@
 -- Assumes nothing.
 use mathlib.Core.Path.{◌≡◌}
 use mathlib.Core.Bool.{true}
-use Prim.Native.Nat.{◌-◌, ◌≤◌}
-use lib.ListN.{length}
 use Rattle.patterns.specs.Pattern.{absent_to}
 use Rattle.rows.proofs.unchecked.place_in.Given as goal
 
 abbrev pub invariant-loop-k : goal.invariant-loop-k
-invariant-loop-k l = (l.k ≤ length l.row) × (absent_to l.row l.column l.k ≡ true)
-
-abbrev pub decreases-loop-k : goal.decreases-loop-k
-decreases-loop-k l = length l.row - l.k
+invariant-loop-k l = absent_to l.row l.column l.k ≡ true

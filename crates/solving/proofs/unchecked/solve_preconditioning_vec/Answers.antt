@@ -9,8 +9,8 @@ use Rattle.solving.proofs.unchecked.solve_preconditioning_vec.Goals as goal
 
 pub returns : goal.returns
 unfolding solve forward_rows backward_rows
-returns c =
+returns g c =
     let a = c.args in
     let t : FactorPattern = record { offsets = a.offsets.now; columns = a.columns.now; splits = a.splits.now } in
     let s : FactorValues = record { diagonal = a.diagonal.now; values = a.values.now } in
-    c.backward.ensures ∙ ap (backward_rows binary64 a.dim t s) c.forward.ensures
+    c.backward.ensures ∙ ap (backward_rows binary64 g.S.Size.DIM t s) c.forward.ensures

@@ -10,17 +10,17 @@ use Rattle.vector_bytes.proofs.numbered.copy.Goals as goal
 pub returns-in-1 : goal.returns-in-1
 returns-in-1 c =
     let a = c.args in
-    at_pair a.n a.dim 1 c.in-1.is refl _ _ _ _ (length a.p.now) (length a.u.now) c.copy_1.ensures
+    at_pair a.n a.dim 1 c.in-1.is refl _ _ _ _ (length a.p.now) (length a.u.now) c.copy.ensures
 
 pub returns-in-2 : goal.returns-in-2
 returns-in-2 c =
     let a = c.args in
-    at_pair a.n a.dim 2 c.in-2.is refl _ _ _ _ (length a.p.now) (length a.u.now) c.copy_2.ensures
+    at_pair a.n a.dim 2 c.in-2.is refl _ _ _ _ (length a.p.now) (length a.u.now) c.copy-in-2.ensures
 
 pub returns-in-3 : goal.returns-in-3
 returns-in-3 c =
     let a = c.args in
-    at_pair a.n a.dim 3 c.in-3.is refl _ _ _ _ (length a.p.now) (length a.u.now) c.copy_3.ensures
+    at_pair a.n a.dim 3 c.in-3.is refl _ _ _ _ (length a.p.now) (length a.u.now) c.copy-in-3.ensures
 
 pub returns-in_default : goal.returns-in_default
 returns-in_default c =

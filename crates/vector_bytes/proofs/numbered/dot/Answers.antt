@@ -11,17 +11,17 @@ use Rattle.vector_bytes.proofs.numbered.dot.Goals as goal
 pub returns-in-1 : goal.returns-in-1
 returns-in-1 c =
     let a = c.args in
-    at_dot binary64 a.v0.now a.v1.now a.n a.dim 1 (length a.v0.now) (length a.v1.now) c.in-1.is refl _ c.dot_1.ensures
+    at_dot binary64 a.v0.now a.v1.now a.n a.dim 1 (length a.v0.now) (length a.v1.now) c.in-1.is refl _ c.dot.ensures
 
 pub returns-in-2 : goal.returns-in-2
 returns-in-2 c =
     let a = c.args in
-    at_dot binary64 a.v0.now a.v1.now a.n a.dim 2 (length a.v0.now) (length a.v1.now) c.in-2.is refl _ c.dot_2.ensures
+    at_dot binary64 a.v0.now a.v1.now a.n a.dim 2 (length a.v0.now) (length a.v1.now) c.in-2.is refl _ c.dot-in-2.ensures
 
 pub returns-in-3 : goal.returns-in-3
 returns-in-3 c =
     let a = c.args in
-    at_dot binary64 a.v0.now a.v1.now a.n a.dim 3 (length a.v0.now) (length a.v1.now) c.in-3.is refl _ c.dot_3.ensures
+    at_dot binary64 a.v0.now a.v1.now a.n a.dim 3 (length a.v0.now) (length a.v1.now) c.in-3.is refl _ c.dot-in-3.ensures
 
 pub returns-in_default : goal.returns-in_default
 returns-in_default c =

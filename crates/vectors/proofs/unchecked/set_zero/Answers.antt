@@ -1,25 +1,14 @@
--- `unchecked::set_zero` meets its promise: after k turns the first k values are +0.
+-- `unchecked::set_zero` meets its promise: a turn writes the next value.
 -- Assumes nothing.
-use mathlib.Core.Path.{refl, sym, ◌∙◌}
-use Prim.Native.Nat.{◌<◌}
-use native.Mathlib.Omega.{arith}
-use lib.ListN.{length}
-use lib.Ieee.{nan, binary64}
-use borrow.Author.Rules.{rules}
-use Rattle.base.proofs.Each.{each_none, each_more, each_all}
-use Rattle.vectors.specs.Vectors.{zeroed, zero_at}
+use Rattle.std.proofs.Common.{◌<◌, length, arith}
+use Rattle.std.specs.Float.{binary64, nan}
+use Rattle.base.proofs.Each.{each_more}
+use Rattle.vectors.specs.Vectors.{zero_at}
 use Rattle.vectors.proofs.unchecked.set_zero.Goals as goal
 
-pub loop-k-init : goal.loop-k-init
-loop-k-init c = (refl, sym (each_none _ _))
-
-pub loop-k-preserved : goal.loop-k-preserved
+pub loop-x-preserved : goal.loop-x-preserved
 unfolding zero_at
-loop-k-preserved c =
+loop-x-preserved c =
     let a = c.args in
-    let h : c.loop-k.k < length a.p.now = omega arith in
-    (search rules, rw c.loop-k.invariant.1 (each_more (zero_at binary64) c.loop-k.k a.p.now nan h))
-
-pub returns : goal.returns
-unfolding zeroed
-returns c = c.loop-k.invariant.1 ∙ each_all _ _ _ (omega arith)
+    let inside : c.loop-x.x-index < length a.p.now = omega arith in
+    rw c.loop-x.invariant (each_more (zero_at binary64) c.loop-x.x-index a.p.now nan inside)

@@ -11,6 +11,3 @@ abbrev pub invariant-loop-k : goal.invariant-loop-k
 invariant-loop-k l =
     (length l.bytes ≡ length l.initial.bytes) × (l.k ≤ l.size) × (l.bytes ≡ paste l.initial.bytes l.at (bytes_of_word l.size l.word) l.k)
     × (bytes_of_word (l.size - l.k) l.rest ≡ drop l.k (bytes_of_word l.size l.word))
-
-abbrev pub decreases-loop-k : goal.decreases-loop-k
-decreases-loop-k l = l.size - l.k

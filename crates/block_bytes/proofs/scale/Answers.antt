@@ -1,7 +1,0 @@
--- `scale` meets its promise: the one vector is lent as both operands, and is checked once.
--- Assumes nothing.
-use Rattle.outcomes.proofs.OutcomeLaws.{once}
-use Rattle.block_bytes.proofs.scale.Goals as goal
-
-pub returns : goal.returns
-returns c = once _ _ _ _ _ _ _ _ _ _ c.run.ensures
