@@ -85,3 +85,13 @@ pub fn put_row<S: Size>(values: &mut [f64], i: usize, new: S::Row)
 {
     new.put(values, i);
 }
+
+// Any values, put in place `at` and after it. A loop: std's copy would call the C library's `memmove`, which no archive asks for.
+pub fn put(values: &mut [f64], at: usize, new: &[f64])
+    requires { at + length new.now ≤ length values.old }
+    ensures { values.new ≡ put_at at new.now values.old }
+{
+    for (k, x) in new.iter().enumerate() {
+        values[at + k] = *x;
+    }
+}

@@ -12,7 +12,7 @@ ghost use Rattle.copy_rows.specs.Steps.{CopyRow, CopyFits};
 ghost use Rattle.copy_rows.specs.Scatter.{Guided, Zeros, put_marked};
 
 use answers::Index;
-use blocks::unchecked::{block_at, put_block};
+use blocks::unchecked::{block_at, put, put_block};
 use blocks::{Size, Values, block_size};
 use copy_check::unchecked::is_same_pattern;
 use places::unchecked::{mark_row, place_of};
@@ -220,7 +220,7 @@ fn copy_entries<S: Size>(
     ensures { values.new ≡ copied_rows binary64 S.DIM starts.now entries.now a_values.now offsets.now columns.now }
 {
     if is_same_pattern(starts, entries, offsets, columns) {
-        values.copy_from_slice(a_values);
+        put(values, 0, a_values);
     } else {
         copy_rows::<S>(values, starts, entries, a_values, offsets, columns);
     }
@@ -240,6 +240,6 @@ pub fn copy_value<S: Size>(
     requires { (CopyFits S.DIM starts.now entries.now offsets.now columns.now (length a_values.now) (length values.old)) × (length a_diagonal.now ≡ length diagonal.old) }
     ensures { (diagonal.new ≡ a_diagonal.now) × (values.new ≡ copied_rows binary64 S.DIM starts.now entries.now a_values.now offsets.now columns.now) }
 {
-    diagonal.copy_from_slice(a_diagonal);
+    put(diagonal, 0, a_diagonal);
     copy_entries::<S>(values, starts, entries, a_values, offsets, columns);
 }

@@ -7,6 +7,16 @@ ghost use Rattle.ilu0.specs.Steps.{InOrder, Ready, RowsSorted, Written};
 use fill::clear;
 use rows::sort;
 
+// As many words over others. A loop: std's copy would call the C library's `memmove`, which no archive asks for.
+fn copy(to: &mut [u32], from: &[u32])
+    requires { length to.old ≡ length from.now }
+    ensures { to.new ≡ from.now }
+{
+    for (k, word) in to.iter_mut().enumerate() {
+        *word = from[k];
+    }
+}
+
 // The first place of a row whose column exceeds i, or the row's end.
 #[tactic(auto, using(base::proofs::First::first_start, base::proofs::First::first_skip, base::proofs::First::first_hit, base::proofs::First::first_end_lem))]
 fn first_above(row: &[u32], i: u32) -> usize
@@ -46,8 +56,8 @@ pub fn write_sorted(
     ensures { Written starts.now entries.now (length columns.old) offsets.new columns.new splits.new }
 {
     let all = entries.len();
-    offsets.copy_from_slice(starts);
-    columns[0..all].copy_from_slice(entries);
+    copy(offsets, starts);
+    copy(&mut columns[0..all], entries);
     clear(&mut columns[all..]);
     sort_rows(columns, splits, starts);
 }

@@ -16,13 +16,15 @@ pub fn set_zero(p: &mut [f64])
     }
 }
 
-// p = u
-#[tactic(auto, using(crate::proofs::VectorLaws::copied_is))]
+// p = u. A loop: std's copy would call the C library's `memmove`, which no archive asks for.
+#[tactic(auto, using(base::proofs::Each::each_none, base::proofs::Each::each_all), unfolding(crate::specs::Vectors::copied))]
 pub fn copy(p: &mut [f64], u: &[f64])
     requires { length u.now ≡ length p.old }
     ensures { p.new ≡ copied u.now p.old }
 {
-    p.copy_from_slice(u);
+    for (k, x) in p.iter_mut().enumerate() {
+        *x = u[k];
+    }
 }
 
 // u = u + p * alpha

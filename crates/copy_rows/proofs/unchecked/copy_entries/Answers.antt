@@ -3,11 +3,12 @@
 use mathlib.Core.Path.{◌∙◌}
 use native.Mathlib.Omega.{arith}
 use lib.Ieee.{binary64}
+use Rattle.copy_rows.proofs.JoinLaws.{put_whole}
 use Rattle.copy_rows.proofs.AllLaws.{same_long, same_copied}
 use Rattle.copy_rows.proofs.unchecked.copy_entries.Goals as goal
 
-pub copy_from_slice-requires : goal.copy_from_slice-requires
-copy_from_slice-requires g c =
+pub put-requires : goal.put-requires
+put-requires g c =
     let same = c.is_same_pattern.ensures c.if-is_same_pattern.true in
     omega (arith, same_long c.requires same.1)
 
@@ -15,4 +16,4 @@ pub returns-then-is_same_pattern : goal.returns-then-is_same_pattern
 returns-then-is_same_pattern g c =
     let a = c.args in
     let same = c.is_same_pattern.ensures c.if-is_same_pattern.true in
-    c.copy_from_slice.ensures.after ∙ same_copied binary64 a.a_values.now c.requires same.0 same.1
+    c.put.ensures ∙ put_whole a.a_values.now a.values.now (same_long c.requires same.1) ∙ same_copied binary64 a.a_values.now c.requires same.0 same.1

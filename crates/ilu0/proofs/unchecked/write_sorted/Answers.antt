@@ -11,6 +11,6 @@ sort_rows-requires c = in_order c.requires _ (search rules) (search rules)
 pub returns : goal.returns
 returns c =
     let a = c.args in
-    written c.requires _ _ _ _ c.copy_from_slice.ensures.after
-    (copied a.entries.now a.columns.now _ _ _ _ c.requires.fits c.copy_from_slice-2.ensures.after refl c.clear.ensures refl)
+    written c.requires _ _ _ _ c.copy.ensures
+    (copied a.entries.now a.columns.now _ _ _ _ c.requires.fits c.copy-2.ensures refl c.clear.ensures refl)
     c.sort_rows.ensures
