@@ -28,7 +28,8 @@ pub fn place_of(marks: &[u8; 4096], row: &[u32], column: u32) -> u32
     // A step of 256: places that have the same low byte.
     while guess < row.len() {
         if row[guess] == column {
-            return guess as u32;
+            // A place fits 16 bits. Where that is said, who asked doesn't compare a place that is found with "no place" again.
+            return guess as u16 as u32;
         }
         guess += 256;
     }

@@ -96,6 +96,8 @@ fn upper_end(columns: &[u32], offsets: &[u32], e: usize) -> usize
 }
 
 // The lower entries of row i in order, from the first to before the end, where the row is marked.
+// A function of its own for each N: built into an entry point its loops take more time at N = 1 (docs/LOOK-BACK.md).
+#[inline(never)]
 fn take_lower<S: Size>(
     diagonal: &mut [f64],
     values: &mut [f64],
